@@ -85,7 +85,7 @@ done-serves : (old new : World) (made : World) (spaces : Spaces) (pending more p
     → ((cleared : ℕ) (born : set.FinSet nat_cmp) (notes : Notes) → IsDue (after_reach answer write (flat_memory (memory_of s.mid spaces) born notes) p (page a)) (record { process = p; call = c; reply = r; cleared = cleared })
     → IsDue (flat_memory (memory_of s.mid spaces) born notes) (record { process = p; call = c; reply = r; cleared = cleared })
     × (after_act (after_reach answer write (flat_memory (memory_of s.mid spaces) born notes) p (page a)) (record { process = p; call = c; reply = r; cleared = cleared }) ≡ after_act (flat_memory (memory_of s.mid spaces) born notes) (record { process = p; call = c; reply = r; cleared = cleared })))
-    → ((cleared : ℕ) → ActsOnPages made new spaces (record { process = p; call = c; reply = r; cleared = cleared })) → new.store.names ≡ made.store.names → IsRefusal (memory_of old spaces) p c (refusal_in r) → ModifiesOnly (MayModify (memory_of new spaces) p c r) old new → ((from : ℕ) → r ≢ reply.Synced from)
+    → ((cleared : ℕ) → ActsOnPages made new spaces (record { process = p; call = c; reply = r; cleared = cleared })) → new.store.names ≡ made.store.names → IsRefusal (memory_of old spaces) p c (refusal_in r) → ModifiesOnly (MayModify (memory_of old spaces) (memory_of new spaces) p c r) old new → ((from : ℕ) → r ≢ reply.Synced from)
     → ServesDone (memory_of old spaces) (memory_of new spaces) pending more p c r
 done-serves old new made spaces pending more p a n write answer c r s same acts names refusal modified plain = record {
   mid = s.mid;
@@ -123,7 +123,7 @@ store-reached old mid new spaces pending more p a n frame v s writes hat anon ma
       (λ cleared born notes due. store-same (flat_memory (memory_of s.mid spaces) born notes) p a n v cleared (cell_of (contents_of s.mid notes).place s.means.spot) (eq-eqb (a % n) 0 s.means.aligned)
       (there s.mid spaces born notes p a n can_write s.means.spot s.means.here) s.means.allowed due)
       (λ cleared. store-acts mid new spaces p a n frame v cleared s.acts.memory s.means writes) (ap (λ (st : StoreSeen). st.names) store) (store-refusal (memory_of old spaces) p a n v None s.due)
-      (then-none (MayModify (memory_of new spaces) p (call.Store a n v) reply.Done) old mid new (only-as (ReachModifies (memory_of mid spaces) p (page a) true (access.Reached frame)) (MayModify (memory_of new spaces) p (call.Store a n v) reply.Done) old mid
+      (then-none (MayModify (memory_of old spaces) (memory_of new spaces) p (call.Store a n v) reply.Done) old mid new (only-as (ReachModifies (memory_of mid spaces) p (page a) true (access.Reached frame)) (MayModify (memory_of old spaces) (memory_of new spaces) p (call.Store a n v) reply.Done) old mid
       (λ name is. (is.0.0, is.0.1, ap (λ (ms : List (Option Map)). shown_name ms is.0.0) maps ∙ is.0.2)) s.modified) modified) (λ from is. let z : reply.Done ≡ reply.Synced from = is in cc);
   due = tt;
   shown = shown-there new spaces p (page a) s.means.noted.entry writes.2.memory (ap (λ (h : HatSeen). translation_at h.places p (page a)) hat ∙ s.means.noted.there);
@@ -142,7 +142,7 @@ module _ (old new : World) (spaces : Spaces) (pending more p a n : ℕ) where
       let f = s.acts.memory in
       record {
         serves = λ calls. done-serves old new new spaces pending more p a n false (access.Reached frame) (call.Load a n) (reply.Word word) s (λ cleared born notes due. (due, refl)) (λ cleared. load-acts new spaces p a n frame word cleared f s.means reads) refl (load-refusal (memory_of old spaces) p a n None s.due)
-            (only-as (ReachModifies (memory_of new spaces) p (page a) false (access.Reached frame)) (MayModify (memory_of new spaces) p (call.Load a n) (reply.Word word)) old new
+            (only-as (ReachModifies (memory_of new spaces) p (page a) false (access.Reached frame)) (MayModify (memory_of old spaces) (memory_of new spaces) p (call.Load a n) (reply.Word word)) old new
             (λ name is. (is.0, elim is.1 [ inl stored ↦ absurd (let z : false ≡ true = stored in cc) | inr unpushed ↦ unpushed ])) s.modified) (λ from is. let z : reply.Word word ≡ reply.Synced from = is in cc);
         due = tt;
         shown = shown-there new spaces p (page a) s.means.noted.entry f s.means.noted.there;

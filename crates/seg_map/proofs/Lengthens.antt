@@ -24,7 +24,7 @@ use Rattle.seg_ops.specs.vm_world.FramesFit.{FilesFit}
 use Rattle.seg_ops.specs.vm_world.MemoryFits.{MemoryFits}
 use Rattle.seg_ops.specs.vm_world.Pages.{page_value, file_contents}
 use Rattle.seg_ops.specs.vm_world.Segments.{Spaces}
-use Rattle.seg_map.specs.Longer.{IsGapPage}
+use Rattle.seg_ops.specs.vm_world.Wants.{IsGapPage}
 use Rattle.seg_ops.specs.vm_world.World.{World, file_name, is_unpushed, is_page_name, page_exists, world_table}
 use Rattle.seg_ops.proofs.vm_world.FilePages.{page-in}
 use Rattle.seg_ops.proofs.vm_world.FileSteps.{files-then}

@@ -8,3 +8,4 @@ pub mod Blanking
 pub mod Lengthens
 pub mod Shortens
 pub mod Readies
+pub mod Truncates

@@ -7,11 +7,11 @@ use Rattle.seg_ops.specs.vnode_files.Vnode.{is_blank}
 use Rattle.seg_ops.specs.vm_world.Wants.{GrowthWants}
 use Rattle.seg_ops.specs.vm_world.World.{World, file_name, is_unpushed}
 use Rattle.seg_ops.proofs.vm_world.PageNames.{not-slot}
-use Rattle.seg_map.specs.Longer.{IsGapPage}
+use Rattle.seg_ops.specs.vm_world.Wants.{IsGapPage}
 
 -- a page that was pushed is wanted
 pub pushed-wants : (w : World) (f n : ℕ) (name : PageName) → IsGapPage w f n name → IsFalse (is_unpushed w.files w.anon name) → GrowthWants w f n name
-pushed-wants w f n name gap pushed = record { longer = gap.longer; tail = gap.tail; last = gap.last; held = inl pushed }
+pushed-wants w f n name gap pushed = record { gap = gap; held = inl pushed }
 
 -- whether a page of a file was never pushed
 pub unpushed-is : (w : World) (f i : ℕ) → f ≢ 64 → is_unpushed w.files w.anon (file_name f i) ≡ is_blank (vnode_at w.files f) i

@@ -26,7 +26,7 @@ use Rattle.seg_ops.specs.vm_world.FileSteps.{ChangesFile}
 use Rattle.seg_ops.specs.vm_world.FlatMemory.{Memory}
 use Rattle.seg_ops.specs.vm_world.MemoryFits.{MemoryFits}
 use Rattle.seg_ops.specs.vm_world.Segments.{Spaces}
-use Rattle.seg_map.specs.Shorter.{IsCutPage}
+use Rattle.seg_ops.specs.vm_world.Wants.{IsCutPage}
 use Rattle.seg_ops.specs.vm_world.Words.{KeepsPages}
 use Rattle.seg_ops.specs.vm_world.World.{World, file_name, page_exists}
 use Rattle.seg_ops.specs.vm_world.declared.world.World as rust

@@ -7,3 +7,4 @@ pub mod Blanks
 pub mod Longer
 pub mod Shorter
 pub mod VoidedPages
+pub mod Served

@@ -12,19 +12,13 @@ use Rattle.seg_ops.specs.flat_model.Words.{page, page_size, pages_in}
 use Rattle.seg_ops.specs.vm_world.FileSteps.{ChangesFile}
 use Rattle.seg_ops.specs.vm_world.FlatMemory.{Memory}
 use Rattle.seg_ops.specs.vm_world.Segments.{Spaces}
-use Rattle.seg_ops.specs.vm_world.Wants.{GrowthWants}
+use Rattle.seg_ops.specs.vm_world.Wants.{GrowthWants, IsGapPage}
 use Rattle.seg_ops.specs.vm_world.Words.{memory, Fits}
 use Rattle.seg_ops.specs.vm_world.World.{World, world_seen, file_name, is_unpushed}
 use Rattle.seg_ops.specs.vm_world.declared.wants.Wants.{Wants}
 use Rattle.seg_ops.specs.vm_world.declared.world.World as rust
 use Rattle.seg_ops.specs.Plans.{FetchesPage}
 use Rattle.seg_map.specs.Ends.{SetsEnd, with_file_records}
-
--- The old last page of a file that gets longer, where it has a tail.
-pub record IsGapPage (w : World) (file end : ℕ) (name : PageName) : Type 0 where
-  pub longer : (vnode_at w.files file).info.length < end
-  pub tail : (vnode_at w.files file).info.length % page_size ≢ 0
-  pub last : name ≡ file_name file (page (vnode_at w.files file).info.length)
 
 -- The page is home, in a frame on no list.
 abbrev pub IsHomeUnlisted : World → PageName → Type 0

@@ -1,5 +1,5 @@
 -- A file that is made shorter. Public clauses cite this.
-use Rattle.std.specs.Prelude.{◌≡◌, ◌≢◌, ◌<◌, ◌%◌, ℕ, Some}
+use Rattle.std.specs.Prelude.{◌≡◌, ◌≢◌, ◌<◌, ◌%◌, ℕ, Option, Some, None}
 use Rattle.seg_ops.specs.page_hash.Names.{name_at}
 use Rattle.seg_ops.specs.page_hash.declared.PageName.{PageName}
 use Rattle.seg_ops.specs.page_store.Seen.{StoreSeen, residence}
@@ -9,19 +9,19 @@ use Rattle.seg_ops.specs.flat_model.Flat.{File}
 use Rattle.seg_ops.specs.flat_model.Words.{page, page_size, pages_in}
 use Rattle.seg_ops.specs.vm_world.FileSteps.{ChangesFile}
 use Rattle.seg_ops.specs.vm_world.FlatMemory.{Memory}
+use Rattle.seg_ops.specs.vm_world.Wants.{IsCutPage}
 use Rattle.seg_ops.specs.vm_world.World.{World, file_name}
 use Rattle.seg_map.specs.Cuts.{IsPastEnd}
 use Rattle.seg_map.specs.Ends.{MaySetEnd}
 
--- The new last page of a file that gets shorter, where it gets a tail.
-pub record IsCutPage (w : World) (file end : ℕ) (name : PageName) : Type 0 where
-  pub shorter : end < (vnode_at w.files file).info.length
-  pub tail : end % page_size ≢ 0
-  pub last : name ≡ file_name file (page end)
-
--- It isn't moving.
+-- The new last page of a file that is to get shorter, where it gets a tail, isn't moving.
 abbrev pub IsTailStill : World → ℕ → ℕ → Type 0
 IsTailStill w f end = (name : PageName) → IsCutPage w f end name → (seat : ℕ) → residence w.store name ≢ Moving seat
+
+-- It is moving with this seat, or isn't moving.
+abbrev pub HoldsTail : World → ℕ → ℕ → Option ℕ → Type 0
+HoldsTail w f end (Some seat) = (end % page_size ≢ 0) × (residence w.store (file_name f (page end)) ≡ Moving seat)
+HoldsTail w f end None = IsTailStill w f end
 
 -- No frame holds a page of the file past an end.
 abbrev pub NoneHeldPast : StoreSeen → ℕ → ℕ → Type 0

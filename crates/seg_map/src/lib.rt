@@ -4,6 +4,7 @@
 mod bytes;
 mod given;
 mod laws;
+mod lengths;
 mod longer;
 mod ready;
 mod records;
@@ -12,6 +13,7 @@ mod shorter;
 pub use bytes::put;
 pub use given::void_page;
 pub use laws::{cut_law, ends_law, part_law, wholes_law};
+pub use lengths::truncate;
 pub use longer::make_longer;
 pub use ready::ready_last;
 pub use records::set_end;

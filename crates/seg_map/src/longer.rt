@@ -7,7 +7,7 @@ ghost use Rattle.seg_ops.specs.vnode_files.declared.extent.Extent.{Extent};
 ghost use Rattle.seg_ops.specs.vnode_files.Files.{vnode_at, growth_of};
 ghost use Rattle.seg_ops.specs.vm_world.Segments.{Spaces};
 ghost use Rattle.seg_ops.specs.vm_world.Serving.{ModifiesOnly};
-ghost use Rattle.seg_map.specs.Longer.{IsGapPage};
+ghost use Rattle.seg_ops.specs.vm_world.Wants.{IsGapPage};
 ghost use Rattle.seg_ops.specs.vm_world.Words.{memory, Fits, IsFit, OnlyStore};
 ghost use Rattle.seg_ops.specs.vm_world.World.{world_seen};
 ghost use Rattle.seg_ops.specs.Rooms.{SameLists};

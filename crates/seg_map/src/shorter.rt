@@ -5,7 +5,7 @@ ghost use Rattle.seg_ops.specs.flat_model.Words.{pages_in};
 ghost use Rattle.seg_ops.specs.vnode_files.Files.{vnode_at};
 ghost use Rattle.seg_ops.specs.vm_world.Segments.{Spaces};
 ghost use Rattle.seg_ops.specs.vm_world.Serving.{ModifiesNone, ModifiesOnly};
-ghost use Rattle.seg_map.specs.Shorter.{IsCutPage};
+ghost use Rattle.seg_ops.specs.vm_world.Wants.{IsCutPage};
 ghost use Rattle.seg_ops.specs.vm_world.Words.{memory, Fits, IsFit, OnlyStore};
 ghost use Rattle.seg_ops.specs.vm_world.World.{world_seen};
 ghost use Rattle.seg_map.specs.Longer.{GrowsInto};

@@ -104,7 +104,7 @@ pub record IsDone (old new : KernelState) (p : ℕ) (call : Call) (reply : Reply
   pub clean : (from : ℕ) (name : PageName) → reply ≡ Synced from → WantsClean new.memory p call name → IsCleanPage new.memory.world name
   pub takes : TakesFrames old.memory mid old.pending cleared
   pub replaced : AreReplaced old.memory.world new.memory.world takes.cut
-  pub modified : ModifiesOnly (MayModify new.memory p call reply) old.memory.world new.memory.world
+  pub modified : ModifiesOnly (MayModify old.memory new.memory p call reply) old.memory.world new.memory.world
   pub bays : new.memory.world.store.bays ≡ old.memory.world.store.bays
   pub plan : new.plan ≡ None
 

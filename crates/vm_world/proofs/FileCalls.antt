@@ -1,6 +1,6 @@
 -- CALLS ON FILES, as flat memory has them.
 use Rattle.std.proofs.Common.{◌≡◌, ℕ, zero, suc, ◌+◌, ◌-◌, ◌%◌, ◌<◌, ◌≤◌, ◌==◌, min, Bool, true, false, cond, List, [], ◌∷◌, ◌++◌, length, map, Option, Some, None, refl, sym, ap, ◌∙◌, inl, inr, subst, arith}
-use Rattle.std.specs.Prelude.{option_map, slice_get, slice_set, IsTrue, All, Result, Ok, Err, IsOk, ok_or, is_some, nat_lt, take, drop, filter, remove, unwrap_or, ◌⊎◌, if◌then◌else◌}
+use Rattle.std.specs.Prelude.{option_map, slice_get, slice_set, IsSome, IsTrue, All, Result, Ok, Err, IsOk, ok_or, is_some, nat_lt, take, drop, filter, remove, unwrap_or, ◌⊎◌, if◌then◌else◌}
 use Rattle.std.specs.List.{flat_map, concat}
 use Rattle.std.specs.FinMap as finite
 use Rattle.std.specs.FinSet as set
@@ -14,6 +14,7 @@ use Rattle.flat_model.specs.vm_types.declared.call.Call.TheVariants as call
 use Rattle.flat_model.specs.vm_types.declared.call.Entry.{Entry}
 use Rattle.flat_model.specs.vm_types.declared.call.Errno.{Errno}
 use Rattle.flat_model.specs.vm_types.declared.call.Errno.TheVariants as errno
+use Rattle.flat_model.specs.vm_types.declared.call.Reply.{Reply}
 use Rattle.flat_model.specs.vm_types.declared.call.Reply.TheVariants as reply
 use Rattle.flat_model.specs.vm_types.Pages.{line_rest}
 use Rattle.page_store.specs.Notes.{Notes}
@@ -41,7 +42,8 @@ use Rattle.vm_world.specs.World.{World, AllTell, file_name}
 use Rattle.vm_world.proofs.FilePages.{page-in, page-past, file-in}
 use Rattle.vm_world.proofs.FileSteps.{file_rule, file-at, no-file-at, file-whole-at}
 use Rattle.flat_model.specs.vm_types.Parts.{file_of_call}
-use Rattle.vm_world.specs.Plans.{MayMeetFault}
+use Rattle.vm_world.specs.Plans.{MayMeetFault, IsRefusal, refusal_in}
+use Rattle.vm_world.specs.Wants.{HasRoomFor}
 use Rattle.vm_world.proofs.MayFails.{writable_in, writable-in, kept_file}
 use Rattle.vm_world.proofs.PageNames.{not-slot, file-apart}
 
@@ -273,6 +275,64 @@ file-faults p (call.Sync a b) f m is served born notes = absurd (let z : ◌≡�
 file-faults p (call.Fork a) f m is served born notes = absurd (let z : ◌≡◌ {A = Option ℕ} None (Some f) = is in cc)
 file-faults p call.Exit f m is served born notes = absurd (let z : ◌≡◌ {A = Option ℕ} None (Some f) = is in cc)
 
+-- THE ERRNO THAT IS DUE, whatever the disks have.
+has-room : (files : FilesSeen) (f end : ℕ) → room_refusal files f end ≡ None → HasRoomFor files f end
+has-room files f end is = by_there (nat_lt f (length files.files)) refl is
+  where
+    by_growth : (g : Option (List Extent)) → f < length files.files → (vnode_at files f).info.writable ≡ true → growth_of files f (pages_in end) ≡ g → cond (is_some g) None (Some errno.TooBig) ≡ None → HasRoomFor files f end
+    by_growth None lt mode e h = absurd (let z : ◌≡◌ {A = Option Errno} (Some errno.TooBig) None = h in cc)
+    by_growth (Some es) lt mode e h = record { there = lt; writable = mode; room = subst (λ (o : Option (List Extent)). IsSome o) (sym e) refl }
+
+    by_mode : (b : Bool) → f < length files.files → (vnode_at files f).info.writable ≡ b → cond b (cond (is_some (growth_of files f (pages_in end))) None (Some errno.TooBig)) (Some errno.ReadOnly) ≡ None → HasRoomFor files f end
+    by_mode true lt e h = by_growth (growth_of files f (pages_in end)) lt e refl h
+    by_mode false lt e h = absurd (let z : ◌≡◌ {A = Option Errno} (Some errno.ReadOnly) None = h in cc)
+
+    by_there : (b : Bool) → nat_lt f (length files.files) ≡ b
+        → cond b (cond (vnode_at files f).info.writable (cond (is_some (growth_of files f (pages_in end))) None (Some errno.TooBig)) (Some errno.ReadOnly)) (Some errno.NoObject) ≡ None → HasRoomFor files f end
+    by_there true e h = by_mode (vnode_at files f).info.writable (ltb-true f (length files.files) e) refl h
+    by_there false e h = absurd (let z : ◌≡◌ {A = Option Errno} (Some errno.NoObject) None = h in cc)
+
+some-of : {A : Type 0} (o : Option A) → IsSome o → (x : A) × (o ≡ Some x)
+some-of None is = absurd (let z : false ≡ true = is in cc)
+some-of (Some x) is = (x, refl)
+
+room-due : (m : Memory) (fits : MemoryFits m) (born : set.FinSet nat_cmp) (notes : Notes) (f end : ℕ) (h : File → File)
+    → refusal_in (or_refused (flat_memory m born notes) (λ file. done_effect (with_file_at (flat_memory m born notes) f (h file))) (room_for (flat_memory m born notes) f end)).reply ≡ option_map reply.Refused (room_refusal m.world.files f end)
+room-due m fits born notes f end h = by_refusal (room_refusal m.world.files f end) refl
+  where
+    told : Result File Errno → Option Reply
+    told r = refusal_in (or_refused (flat_memory m born notes) (λ file. done_effect (with_file_at (flat_memory m born notes) f (h file))) r).reply
+
+    by_refusal : (o : Option Errno) → room_refusal m.world.files f end ≡ o → told (room_for (flat_memory m born notes) f end) ≡ option_map reply.Refused o
+    by_refusal (Some e) is = ap told (room-by m fits born notes f end (Some e) is [] (λ none. absurd (let z : ◌≡◌ {A = Option Errno} (Some e) None = none in cc)))
+    by_refusal None is =
+        let g = some-of (growth_of m.world.files f (pages_in end)) (has-room m.world.files f end is).room in
+        ap told (room-by m fits born notes f end None is g.0 (λ none. g.1))
+
+read-due : (m : Memory) (born : set.FinSet nat_cmp) (notes : Notes) (f offset len : ℕ)
+    → refusal_in (read_part (flat_memory m born notes) f offset len).reply ≡ option_map reply.Refused (cond (nat_lt f (length m.world.files.files)) None (Some errno.NoObject))
+read-due m born notes f offset len = by_there (nat_lt f (length m.world.files.files)) refl
+  where
+    told : Option File → Option Reply
+    told o = refusal_in (or_refused (flat_memory m born notes) (λ (file : File). record { reply = reply.Bytes (read_line file offset len); after = flat_memory m born notes }) (ok_or o errno.NoObject)).reply
+
+    by_there : (b : Bool) → nat_lt f (length m.world.files.files) ≡ b → told (slice_get (flat_memory m born notes).files f) ≡ option_map reply.Refused (cond b None (Some errno.NoObject))
+    by_there true e = ap told (file-at m.world notes f (ltb-true f (length m.world.files.files) e))
+    by_there false e = ap told (no-file-at m.world notes f (ltb-false f (length m.world.files.files) e))
+
+file-due : (p : ℕ) (c : Call) (f : ℕ) (m : Memory) → MemoryFits m → file_of_call c ≡ Some f → IsRefusal m p c (option_map reply.Refused (file_refusal m.world.files c))
+file-due p (call.Read g offset len) f m fits is born notes = read-due m born notes g offset len
+file-due p (call.Write g offset line rest) f m fits is born notes = room-due m fits born notes g (offset + length line) (with_part offset line)
+file-due p (call.Truncate g len) f m fits is born notes = room-due m fits born notes g len (file_of_length len)
+file-due p (call.Load a n) f m fits is born notes = absurd (let z : ◌≡◌ {A = Option ℕ} None (Some f) = is in cc)
+file-due p (call.Store a n v) f m fits is born notes = absurd (let z : ◌≡◌ {A = Option ℕ} None (Some f) = is in cc)
+file-due p (call.Map a b c d x y) f m fits is born notes = absurd (let z : ◌≡◌ {A = Option ℕ} None (Some f) = is in cc)
+file-due p (call.Unmap a b) f m fits is born notes = absurd (let z : ◌≡◌ {A = Option ℕ} None (Some f) = is in cc)
+file-due p (call.Protect a b c) f m fits is born notes = absurd (let z : ◌≡◌ {A = Option ℕ} None (Some f) = is in cc)
+file-due p (call.Sync a b) f m fits is born notes = absurd (let z : ◌≡◌ {A = Option ℕ} None (Some f) = is in cc)
+file-due p (call.Fork a) f m fits is born notes = absurd (let z : ◌≡◌ {A = Option ℕ} None (Some f) = is in cc)
+file-due p call.Exit f m fits is born notes = absurd (let z : ◌≡◌ {A = Option ℕ} None (Some f) = is in cc)
+
 pub file_calls_law : FileCallsLaw
 file_calls_law = record {
   refused = refused;
@@ -280,4 +340,6 @@ file_calls_law = record {
   written = λ p f offset rest cleared line extents old new fits served grown changes. grown-acts p f (offset + length line) cleared (call.Write f offset line rest) extents old new (with_part offset line) fits served grown changes (λ G. refl);
   truncated = λ p f len cleared extents old new fits served grown changes. grown-acts p f len cleared (call.Truncate f len) extents old new (file_of_length len) fits served grown changes (λ G. refl);
   faults = λ p c f m fits is served. file-faults p c f m is served;
+  due = file-due;
+  room = has-room;
 }

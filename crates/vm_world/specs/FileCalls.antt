@@ -1,5 +1,5 @@
 -- Calls on files, told by the world: which are refused, and what those that are done do. Public clauses cite this.
-use Rattle.std.specs.Prelude.{◌≡◌, ◌<◌, ◌+◌, ◌-◌, ◌%◌, ℕ, List, Option, Some, None, length, min, take, drop, true, false, is_some, nat_lt, if◌then◌else◌}
+use Rattle.std.specs.Prelude.{◌≡◌, ◌<◌, ◌+◌, ◌-◌, ◌%◌, ℕ, List, Option, Some, None, length, min, take, drop, true, false, is_some, option_map, nat_lt, if◌then◌else◌}
 use Rattle.flat_model.specs.vm_types.declared.call.Call.{Call}
 use Rattle.flat_model.specs.vm_types.declared.call.Call.TheVariants.{Read, Write, Truncate}
 use Rattle.flat_model.specs.vm_types.declared.call.Errno.{Errno}
@@ -19,8 +19,9 @@ use Rattle.vm_world.specs.FlatMemory.{Memory}
 use Rattle.vm_world.specs.MemoryFits.{MemoryFits}
 use Rattle.vm_world.specs.NotesFit.{NotesFit}
 use Rattle.vm_world.specs.Pages.{page_value}
-use Rattle.vm_world.specs.Plans.{MayMeetFault}
+use Rattle.vm_world.specs.Plans.{MayMeetFault, IsRefusal}
 use Rattle.vm_world.specs.ServingLaws.{done_entry}
+use Rattle.vm_world.specs.Wants.{HasRoomFor}
 use Rattle.vm_world.specs.World.{World, file_name, AllTell}
 
 -- The refusal that is due to a call which needs room for so many bytes: NoObject, then ReadOnly, then TooBig.
@@ -63,3 +64,6 @@ pub record FileCallsLaw : Type 0 where
       → ActsOnMemory old new (done_entry p (Truncate f len) Done cleared)
   -- A call that isn't refused may meet a device error.
   pub faults : (p : ℕ) (call : Call) (f : ℕ) (m : Memory) → MemoryFits m → file_of_call call ≡ Some f → file_refusal m.world.files call ≡ None → MayMeetFault m p call
+  -- The errno that is due to it is the files', or none. Where none is, it has room for what it needs.
+  pub due : (p : ℕ) (call : Call) (f : ℕ) (m : Memory) → MemoryFits m → file_of_call call ≡ Some f → IsRefusal m p call (option_map Refused (file_refusal m.world.files call))
+  pub room : (files : FilesSeen) (f end : ℕ) → room_refusal files f end ≡ None → HasRoomFor files f end

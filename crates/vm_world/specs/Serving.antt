@@ -20,7 +20,7 @@ use Rattle.vm_world.specs.Plans.{CanRunPlan, MayMeetFault, IsRefusal, refusal_in
 use Rattle.vm_world.specs.Segments.{Spot, spot_at, shown_name}
 use Rattle.vm_world.specs.StateSteps.{PendsTails}
 use Rattle.vm_world.specs.TranslationsFit.{IsModified}
-use Rattle.vm_world.specs.Wants.{WantsHome, WantsClean, GrowthWants, HoldsUp, IsCleanPage}
+use Rattle.vm_world.specs.Wants.{WantsHome, WantsClean, IsGapPage, IsCutPage, HoldsUp, IsCleanPage}
 use Rattle.vm_world.specs.World.{World, file_name, page_exists, slot_name}
 use Rattle.vm_world.specs.WorldSteps.{stays, WorldStep}
 use Rattle.vm_world.specs.declared.wants.Wants.{Wants}
@@ -74,12 +74,15 @@ IsUnpushedSlot anon name = (slot : ℕ) × (name ≡ slot_name slot) × (slice_i
 abbrev pub ShowsThere : Memory → ℕ → ℕ → PageName → Type 0
 ShowsThere m p q name = (x : Spot) × (spot_at m.spaces p q ≡ Some x) × (shown_name m.world.maps x ≡ Some name)
 
--- WHICH PAGE A CALL MAKES MODIFIED, if it makes any, once it is done with this reply: a store the one that its place shows then, and a load that one only
--- where it is the page of a slot that was never pushed. No other call makes one.
-abbrev pub MayModify : Memory → ℕ → Call → Reply → PageName → Type 0
-MayModify m p (Load a n) (Word word) name = ShowsThere m p (page a) name × IsUnpushedSlot m.world.anon name
-MayModify m p (Store a n v) Done name = ShowsThere m p (page a) name
-MayModify m p call reply name = ⊥
+-- WHICH PAGES A CALL MAKES MODIFIED, if it makes any, once it is done with this reply: a store the one that its place shows then, and a load that one only
+-- where it is the page of a slot that was never pushed; a part of a write the page that gets its bytes, and where it made the file longer the old last one; and
+-- a Truncate the old last page or the new one. No other call makes one.
+abbrev pub MayModify : Memory → Memory → ℕ → Call → Reply → PageName → Type 0
+MayModify old new p (Load a n) (Word word) name = ShowsThere new p (page a) name × IsUnpushedSlot new.world.anon name
+MayModify old new p (Store a n v) Done name = ShowsThere new p (page a) name
+MayModify old new p (Write file offset line rest) Done name = (name ≡ file_name file (page offset)) ⊎ IsGapPage old.world file (offset + length line) name
+MayModify old new p (Truncate file end) Done name = IsGapPage old.world file end name ⊎ IsCutPage old.world file end name
+MayModify old new p call reply name = ⊥
 
 -- The call is done with this reply, whatever tails its entry takes: frames may be taken for other pages, and then it acts. The signal or errno of the reply,
 -- or that it has none, is what was due. No page is modified that wasn't, but one that the call may make so. Where a Sync is answered, each page that it wants
@@ -90,7 +93,7 @@ pub record ServesDone (old new : Memory) (pending more p : ℕ) (call : Call) (r
   pub acts : (cleared : ℕ) → ActsOnMemory (record old { world = mid }) new (record { process = p; call = call; reply = reply; cleared = cleared })
   pub replaced : AreReplaced old.world new.world first.cut
   pub refusal : IsRefusal old p call (refusal_in reply)
-  pub modified : ModifiesOnly (MayModify new p call reply) old.world new.world
+  pub modified : ModifiesOnly (MayModify old new p call reply) old.world new.world
   pub clean : (from : ℕ) (name : PageName) → reply ≡ Synced from → WantsClean new p call name → IsCleanPage new.world name
 
 -- Each page that the call wants home and that a home frame held is still there, on neither list.

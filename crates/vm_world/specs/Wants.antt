@@ -58,18 +58,26 @@ pub record HasRoomFor (files : FilesSeen) (file end : ℕ) : Type 0 where
   pub writable : (vnode_at files file).info.writable ≡ true
   pub room : IsSome (growth_of files file (pages_in end))
 
--- A call that makes a file longer wants home the old last page, where that has a tail, and where it isn't blank or a frame holds it.
-pub record GrowthWants (w : World) (file end : ℕ) (name : PageName) : Type 0 where
+-- The old last page of a file that gets longer, where it has a tail.
+pub record IsGapPage (w : World) (file end : ℕ) (name : PageName) : Type 0 where
   pub longer : (vnode_at w.files file).info.length < end
   pub tail : (vnode_at w.files file).info.length % page_size ≢ 0
   pub last : name ≡ file_name file (page (vnode_at w.files file).info.length)
+
+-- The new last page of a file that gets shorter, where it gets a tail.
+pub record IsCutPage (w : World) (file end : ℕ) (name : PageName) : Type 0 where
+  pub shorter : end < (vnode_at w.files file).info.length
+  pub tail : end % page_size ≢ 0
+  pub last : name ≡ file_name file (page end)
+
+-- A call that makes a file longer wants home the old last page, where that has a tail, and where it isn't blank or a frame holds it.
+pub record GrowthWants (w : World) (file end : ℕ) (name : PageName) : Type 0 where
+  pub gap : IsGapPage w file end name
   pub held : IsFalse (is_unpushed w.files w.anon name) ⊎ IsSome (find w.store.names name)
 
 -- A call that makes a file shorter wants home the new last page, where it gets a tail, and where it is moving.
 pub record CutWants (w : World) (file end : ℕ) (name : PageName) : Type 0 where
-  pub shorter : end < (vnode_at w.files file).info.length
-  pub tail : end % page_size ≢ 0
-  pub last : name ≡ file_name file (page end)
+  pub cut : IsCutPage w file end name
   pub away : (seat : ℕ) × (residence w.store name ≡ Moving seat)
 
 -- The pages that a call wants home.

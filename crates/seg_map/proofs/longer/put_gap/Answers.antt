@@ -5,7 +5,7 @@ use Rattle.seg_ops.specs.vnode_files.declared.vnode.FileInfo.{FileInfo}
 use Rattle.seg_ops.specs.vnode_files.Files.{vnode_at}
 use Rattle.seg_ops.specs.flat_model.Words.{page}
 use Rattle.seg_ops.specs.vm_world.FileSteps.{ChangesFile}
-use Rattle.seg_map.specs.Longer.{IsGapPage}
+use Rattle.seg_ops.specs.vm_world.Wants.{IsGapPage}
 use Rattle.seg_ops.specs.vm_world.World.{World, world_seen, file_name}
 use Rattle.seg_ops.proofs.NewlyModified.{only-as}
 use Rattle.seg_ops.proofs.StillSteps.{memory_of}

@@ -6,7 +6,7 @@ use Rattle.seg_ops.specs.vnode_files.declared.extent.Extent.{Extent}
 use Rattle.seg_ops.specs.vnode_files.declared.vnode.FileInfo.{FileInfo}
 use Rattle.seg_ops.specs.vnode_files.Files.{FilesSeen, vnode_at, growth_of}
 use Rattle.seg_ops.specs.vnode_files.Grow.{page_count}
-use Rattle.seg_map.specs.Shorter.{IsCutPage}
+use Rattle.seg_ops.specs.vm_world.Wants.{IsCutPage}
 use Rattle.seg_ops.specs.vm_world.World.{world_seen}
 use Rattle.seg_ops.proofs.NewlyModified.{none-then, only-as}
 use Rattle.seg_ops.proofs.StillSteps.{memory_of}

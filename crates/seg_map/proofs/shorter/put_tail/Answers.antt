@@ -3,7 +3,7 @@ use Rattle.std.specs.Prelude.{replicate}
 use Rattle.seg_ops.specs.page_store.Seen.{residence}
 use Rattle.seg_ops.specs.flat_model.Words.{page}
 use Rattle.seg_ops.specs.vm_world.FileSteps.{ChangesFile}
-use Rattle.seg_map.specs.Shorter.{IsCutPage}
+use Rattle.seg_ops.specs.vm_world.Wants.{IsCutPage}
 use Rattle.seg_ops.specs.vm_world.Words.{KeepsPages}
 use Rattle.seg_ops.specs.vm_world.World.{World, world_seen, file_name}
 use Rattle.seg_ops.proofs.NewlyModified.{none-then, only-as}
