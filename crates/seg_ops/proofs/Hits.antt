@@ -113,7 +113,7 @@ write-word w spaces new space a n v t h f wrote step laws =
       modified = λ j m. elim m [ inl r ↦ inl (ap (λ (r : Row). r.modified) (row j) ∙ r) | inr x ↦ inr x ];
       written = λ j x. inr x;
       bytes = λ j. elim (eqb_tells j t.frame) [
-        | inl same ↦ inr (subst (λ (i : ℕ). HasWritten w.hat.places i) (sym same.1) wrote)
+        | inl same ↦ inr (inl (subst (λ (i : ℕ). HasWritten w.hat.places i) (sym same.1) wrote))
         | inr other ↦ inl (laws.touches.bytes j (ap (λ (o : Option ℕ). is_only o j) found ∙ other.0))
       ];
     } in

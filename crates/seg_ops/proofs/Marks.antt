@@ -76,6 +76,11 @@ slot-spot : (name : PageName) (a b slot : Bool) → SameSpot (cond slot (slot_pl
 slot-spot name a b true = record { disk = refl; block = refl; valid = refl }
 slot-spot name a b false = record { disk = refl; block = refl; valid = refl }
 
+-- two tables of the same files and slots have each name in one place
+pub spot-any : (files : List FileBlocks) (slots : ℕ) (n : PageName) (a b : PageName → Bool) → SameSpot (table_of files slots a n) (table_of files slots b n)
+spot-any files slots n a b =
+    file-spot n (a n) (b n) (slice_get files n.object) (cond (is_slot slots n) (slot_place n.page (a n)) (own_place n)) (cond (is_slot slots n) (slot_place n.page (b n)) (own_place n)) (slot-spot n (a n) (b n) (is_slot slots n))
+
 map-blocks : (xs ys : List VnodeSeen) → map (λ (v : VnodeSeen). v.info) xs ≡ map (λ (v : VnodeSeen). v.info) ys → map file_blocks xs ≡ map file_blocks ys
 map-blocks xs ys e = sym (through xs) ∙ ap (λ (infos : List FileInfo). map blocks_in infos) e ∙ through ys
   where

@@ -51,8 +51,14 @@ pub record KeepsRow (old new : Row) : Type 0 where
 pub same-row : (old new : Row) → new ≡ old → KeepsRow old new
 same-row old new e = record { keeps = ap (λ (r : Row). r.keeps) e; gone = ap (λ (r : Row). r.gone) e; source = ap (λ (r : Row). r.source) e; rewritten = λ h. ap (λ (r : Row). r.rewritten) e ∙ h }
 
+-- The row of a frame that is home says that its page was modified, also since a snapshot of it went out.
+pub record IsMarked (s : StoreSeen) (k : ℕ) : Type 0 where
+  pub modified : (row_at s.rows k).modified ≡ true
+  pub rewritten : (row_at s.rows k).rewritten ≡ true
+  pub home : IsSome (bytes_at s.frames k)
+
 -- WHAT SUCH A STEP KEEPS: names, disks and residence; no listed frame becomes modified; what was modified stays so, and what a translation says of
--- this is kept by it or by the row; and a frame has its bytes, or a translation says that it was written.
+-- this is kept by it or by the row; and a frame has its bytes, or a translation or its row says that it was written.
 pub record KeepsFrames (old new : StoreSeen) (before after : List (Option Translation)) : Type 0 where
   pub sound : IsSoundStore new
   pub core : core_of new ≡ core_of old
@@ -64,7 +70,7 @@ pub record KeepsFrames (old new : StoreSeen) (before after : List (Option Transl
   pub residence : SameResidence old new
   pub modified : (k : ℕ) → IsModified old before k → IsModified new after k
   pub written : (k : ℕ) → HasWritten before k → ((row_at new.rows k).rewritten ≡ true) ⊎ HasWritten after k
-  pub bytes : (k : ℕ) → (bytes_at new.frames k ≡ bytes_at old.frames k) ⊎ HasWritten after k
+  pub bytes : (k : ℕ) → (bytes_at new.frames k ≡ bytes_at old.frames k) ⊎ (HasWritten after k ⊎ (IsMarked new k × IsSome (bytes_at old.frames k)))
 
 frames-kept : (old new : StoreSeen) (before after : List (Option Translation)) (files : FilesSeen) (anon : AnonSlotsSeen) → KeepsFrames old new before after → FramesFit old files anon → FramesFit new files anon
 frames-kept old new before after files anon k f = record {
@@ -90,7 +96,7 @@ translation-kept old new anon maps spaces t stay listed l = record {
 
 unpushed-kept : (old new : StoreSeen) (before after : List (Option Translation)) (anon : AnonSlotsSeen) → KeepsFrames old new before after → UnpushedFit old anon before → UnpushedFit new anon after
 unpushed-kept old new before after anon k fit j slot name unpushed there = elim (k.bytes j) [
-  | inr w ↦ inr w
+  | inr w ↦ elim w [ inl x ↦ inr x | inr r ↦ inl r.0.modified ]
   | inl same ↦ k.modified j (fit j slot (ap (λ ns. name_at ns j) (sym k.names) ∙ name) unpushed (subst (λ (b : Option (List ℕ)). IsSome b) same there))
 ]
 
@@ -116,7 +122,7 @@ tells-kept old new notes disk bays = ap (λ (b : List BaySeen). tells (record ol
 
 clean-kept : (old new : StoreSeen) (before after : List (Option Translation)) (notes : Notes) (table : PlaceTable) → KeepsFrames old new before after → CleanFit old before table notes → CleanFit new after table notes
 clean-kept old new before after notes table k clean j n name there = elim (k.bytes j) [
-  | inr w ↦ inl (inr w)
+  | inr w ↦ inl (elim w [ inl x ↦ inr x | inr r ↦ inl r.0.modified ])
   | inl same ↦ elim (clean j n (ap (λ ns. name_at ns j) (sym k.names) ∙ name) (subst (λ (b : Option (List ℕ)). IsSome b) same there)) [
     | inl is ↦ inl (k.modified j is)
     | inr is ↦ inr (record {
@@ -168,7 +174,11 @@ push-kept w spaces new hat notes note f k away p = record { pushed = p.pushed; s
 
     as-sent : IsAsSent w.store (world_table w) note → WasRewritten new hat.places note.frame ⊎ IsAsSent new (world_table w) note
     as-sent s = elim (k.bytes (own_frame w.store note.frame)) [
-      | inr y ↦ inl (inr (subst (λ (i : ℕ). HasWritten hat.places i) (sym own) y))
+      | inr y ↦ inl (elim y [
+        | inl x ↦ inr (subst (λ (i : ℕ). HasWritten hat.places i) (sym own) x)
+        | inr r ↦ inl (ap (λ (o : Option ℕ). is_rewritten_in o new) source ∙ own-rewritten new note.frame (row_at w.store.rows note.frame).source
+            (λ none. not-away (bytes_at w.store.frames note.frame) (subst (λ (o : Option ℕ). IsSome (bytes_at w.store.frames (unwrap_or o note.frame))) none r.1) away) r.0.rewritten)
+      ])
       | inl same ↦ inr (record { valid = s.valid; bytes = λ b h. s.bytes b (sym same ∙ ap (λ (i : ℕ). bytes_at new.frames i) (sym own) ∙ h) })
     ]
 

@@ -41,6 +41,6 @@ pub use ranges::drop_places;
 pub use rooms::{evict, make_room, make_room_beside, sync};
 pub use vm_world::{
     AnonMaps, AnonSlots, Call, Entry, Errno, Files, Hat, Kind, Object, PAGE_SIZE, Place, Prot,
-    Ranges, Reply, Segment, Signal, Wants, World, ZeroObjects, is_range, page_of, pages_in,
-    part_file,
+    Ranges, Reply, Segment, Signal, Wants, World, ZeroObjects, bytes_before, is_range, page_of,
+    pages_in, part_file,
 };
