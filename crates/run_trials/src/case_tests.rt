@@ -73,7 +73,7 @@ const WHOLE: Case = Case {
     text: REPORT,
 };
 
-const CASES: [Case; 33] = [
+const CASES: [Case; 34] = [
     WHOLE,
     Case {
         name: "a trace",
@@ -292,6 +292,13 @@ const CASES: [Case; 33] = [
     Case {
         name: "two top blocks",
         script: b"process\nend\nprocess\nend\n",
+        status: 3,
+        text: b"script: later\n",
+        ..WHOLE
+    },
+    Case {
+        name: "joined disks",
+        script: b"disk 0 blank 8\ndisk 1 blank 8\njoin 0 stripe 1\nprocess\nend\n",
         status: 3,
         text: b"script: later\n",
         ..WHOLE

@@ -61,6 +61,30 @@ fn set_up_rules_at_their_edges(rt: HostRuntime) -> Result<(), Fail> {
         ("disk 0 blank 3\nfile a rw 0 0 -", 6),
         ("disk 0 blank 3\nfile a rw 0 16383 -", 0),
         ("disk 0 blank 3\nfile a rw 0 16384 -", 6),
+        ("disk 0 blank 2\ndisk 1 blank 3\njoin 0 stripe 1", 0),
+        (
+            "join 1 mirror 0\ndisk 0 blank 2\ndisk 1 blank 2\nfile a rw 1 1 -",
+            0,
+        ),
+        (
+            "disk 0 blank 2\ndisk 1 blank 2\nfile a rw 1 1 -\njoin 0 mirror 1",
+            14,
+        ),
+        ("disk 0 blank 2\njoin 0 mirror 0", 14),
+        ("disk 0 blank 2\njoin 0 mirror 1", 14),
+        ("disk 1 blank 2\njoin 0 stripe 1", 14),
+        (
+            "disk 0 blank 2\ndisk 1 blank 2\ndisk 2 blank 2\njoin 0 stripe 1\njoin 2 stripe 0",
+            14,
+        ),
+        (
+            "disk 0 blank 2\ndisk 1 blank 2\ndisk 2 blank 2\njoin 0 stripe 1\njoin 2 mirror 1",
+            14,
+        ),
+        (
+            "frames 5\ndisk 0 blank 2\ndisk 1 blank 2\njoin 0 stripe 1",
+            1,
+        ),
     ];
     for (text, rule) in cases {
         assert_eq!(rt; rule_of(rt.alloc(), text)?, rule, "{text}");

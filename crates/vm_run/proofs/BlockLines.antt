@@ -2,7 +2,7 @@
 use Rattle.volume_files.proofs.vm_script.GivenDisks.{not_false as not-false}
 use Rattle.std.proofs.Common.{◌≡◌, ℕ, zero, suc, ◌+◌, ◌<◌, ◌≤◌, Bool, true, false, not, List, [], ◌∷◌, ◌++◌, length, Option, Some, None, refl, sym, ap, ◌∙◌, ◌⊎◌, inl, inr, subst, arith}
 use Rattle.std.specs.Prelude.{All, IsTrue, IsFalse, slice_index_or, nat_lt, ◌||◌}
-use Rattle.std.specs.List.{list_all}
+use Rattle.std.specs.List.{list_all, list_any}
 use Rattle.std.proofs.lemmas.Bool.{ltb-false, or_parts as both-false}
 use Rattle.std.proofs.lemmas.List.{append-nil}
 use Rattle.std.proofs.lemmas.List.Elements.{All-nil, All-cons, All-head, All-tail}
@@ -14,9 +14,11 @@ use Rattle.vm_core.specs.Calls.{IsOnOwnSpace}
 use Rattle.volume_files.specs.vm_script.declared.plan.PlanAct.{PlanAct}
 use Rattle.volume_files.specs.vm_script.declared.plan.PlanAct.TheVariants as act
 use Rattle.volume_files.specs.vm_script.declared.plan.PlanLine.{PlanLine}
+use Rattle.volume_files.specs.vm_script.declared.plan.SetupLine.{SetupLine}
 use Rattle.volume_files.specs.vm_script.Blocks.{IsInner, IsProcessBlock, ends, goes_on, forks, AreProcessBlocks, over, block}
 use Rattle.volume_files.specs.vm_script.Counts.{entry_count, parts, call_parts}
 use Rattle.volume_files.specs.vm_script.PlanSeen.{PlanSeen}
+use Rattle.volume_files.specs.vm_script.Rules.{is_join}
 use Rattle.volume_files.specs.vm_script.Sound.{IsSoundAct}
 use Rattle.volume_files.specs.vm_script.Told.{parent_of}
 use Rattle.vm_core.specs.vm_world.HistoryFits.{is_exit}
@@ -220,7 +222,9 @@ pub plays-one : (plan : PlanSeen) → IsPlayable plan → PlaysOne plan
 plays-one plan may = by_parents plan.parents refl
   where
     parts-of : (nat_lt 1 (length plan.parents) ≡ false) × (not (list_all (λ (l : PlanLine). is_served_act l.act) plan.lines) ≡ false)
-    parts-of = both-false (nat_lt 1 (length plan.parents)) (not (list_all (λ (l : PlanLine). is_served_act l.act) plan.lines)) may.now
+    parts-of =
+        let later : Bool = nat_lt 1 (length plan.parents) || not (list_all (λ (l : PlanLine). is_served_act l.act) plan.lines) in
+        both-false (nat_lt 1 (length plan.parents)) (not (list_all (λ (l : PlanLine). is_served_act l.act) plan.lines)) (both-false (list_any (λ (l : SetupLine). is_join l.act) plan.setup) later may.now).1
 
     served : AreServed plan.lines
     served = AllPass-from_list_all (λ (l : PlanLine). is_served_act l.act) plan.lines (not-false _ parts-of.1)

@@ -1,6 +1,6 @@
 -- A plan that may be played may be played with the numbers of its files.
 use Rattle.std.specs.Prelude.{ℕ, ◌≡◌, ◌<◌, ◌+◌, ◌^◌, ◌||◌, not, nat_lt, Bool, true, false, List, [], ◌∷◌, length, map, if◌then◌else◌}
-use Rattle.std.specs.List.{list_all}
+use Rattle.std.specs.List.{list_all, list_any}
 use Rattle.std.proofs.lemmas.Bool.{and_parts, and_from, both_ways, not-false, or_parts as or_false}
 use Rattle.std.proofs.Common.{ap, ◌∙◌, sym, subst, refl, arith}
 use Rattle.std.proofs.lemmas.List.{map-append, length-map}
@@ -16,6 +16,7 @@ use Rattle.volume_files.specs.vm_script.Blocks.{IsInner, IsProcessBlock, ends, g
 use Rattle.volume_files.specs.vm_script.Fields.{is_word}
 use Rattle.volume_files.specs.vm_script.FileNames.{place_from, call_with_file, act_with_file, line_with_file, with_files}
 use Rattle.volume_files.specs.vm_script.PlanSeen.{PlanSeen}
+use Rattle.volume_files.specs.vm_script.Rules.{is_join}
 use Rattle.volume_files.specs.vm_script.Sound.{IsSoundAct}
 use Rattle.vm_run.specs.Asked.{is_later, is_served_act, is_served_named}
 use Rattle.vm_run.specs.Played.{IsPlayable}
@@ -49,9 +50,11 @@ served-all names (l ∷ lines) h =
 
 later-named : (names : List (List ℕ)) (plan : PlanSeen) → is_later plan ≡ false → is_later (with_files names plan) ≡ false
 later-named names plan h =
-    let both = or_false (nat_lt 1 (length plan.parents)) (not (list_all (λ l. is_served_act l.act) plan.lines)) h in
+    let alone = or_false (list_any (λ l. is_join l.act) plan.setup) (nat_lt 1 (length plan.parents) || not (list_all (λ l. is_served_act l.act) plan.lines)) h in
+    let both = or_false (nat_lt 1 (length plan.parents)) (not (list_all (λ l. is_served_act l.act) plan.lines)) alone.1 in
     let all = served-all names plan.lines (not-false (list_all (λ l. is_served_act l.act) plan.lines) both.1) in
-    ap (λ (t : Bool). t || not (list_all (λ l. is_served_act l.act) (map (line_with_file names) plan.lines))) both.0 ∙ ap not all
+    ap (λ (t : Bool). t || (nat_lt 1 (length plan.parents) || not (list_all (λ l. is_served_act l.act) (map (line_with_file names) plan.lines)))) alone.0
+    ∙ ap (λ (t : Bool). t || not (list_all (λ l. is_served_act l.act) (map (line_with_file names) plan.lines))) both.0 ∙ ap not all
 
 -- the blocks nest as before
 inner-named : (names : List (List ℕ)) (a : PlanAct) → IsInner a → IsInner (act_with_file names a)

@@ -112,6 +112,7 @@ by-line (given.Path disk path) a n = once-in disk a n
 by-line (given.Frames x) a n = let none = sum-nothing (range_with_len a n) in omega (arith, none)
 by-line (given.Swap x) a n = let none = sum-nothing (range_with_len a n) in omega (arith, none)
 by-line (given.Translations x) a n = let none = sum-nothing (range_with_len a n) in omega (arith, none)
+by-line (given.Join disk other mirror) a n = let none = sum-nothing (range_with_len a n) in omega (arith, none)
 by-line (given.File name writable disk pages bytes) a n = let none = sum-nothing (range_with_len a n) in omega (arith, none)
 
 given-lines : (setup : List SetupLine) (a n : ℕ) → sum_by (lines_giving setup) (range_with_len a n) ≤ count_by (λ (l : SetupLine). gives_a_disk l.act) setup
@@ -146,6 +147,7 @@ own-number (given.Path disk path) n s gives is = let e : spec.Path disk path ≡
 own-number (given.Frames x) n s gives is = absurd (let z : false ≡ true = gives in cc)
 own-number (given.Swap x) n s gives is = absurd (let z : false ≡ true = gives in cc)
 own-number (given.Translations x) n s gives is = absurd (let z : false ≡ true = gives in cc)
+own-number (given.Join disk other mirror) n s gives is = absurd (let z : false ≡ true = gives in cc)
 own-number (given.File name writable disk pages bytes) n s gives is = absurd (let z : false ≡ true = gives in cc)
 
 -- numbers that rise, from a least one on

@@ -1,6 +1,6 @@
 -- What a run is asked to do, by its words and by the script or the number of a generated one. Public clauses cite this.
 use Rattle.std.specs.Prelude.{ℕ, not, nat_lt, ◌||◌, Bool, true, false, List, length, ◌≡◌, Option, Some, None, IfSome, option_map, Result, Ok, Err, if◌then◌else◌}
-use Rattle.std.specs.List.{list_all}
+use Rattle.std.specs.List.{list_all, list_any}
 use Rattle.volume_files.specs.vm_types.declared.call.Call.{Call}
 use Rattle.volume_files.specs.vm_types.declared.call.Call.TheVariants as call
 use Rattle.volume_files.specs.block_device.Counts.{HasRisen}
@@ -13,7 +13,7 @@ use Rattle.volume_files.specs.vm_script.declared.plan.PlanAct.TheVariants as act
 use Rattle.volume_files.specs.vm_script.Generated.{generated_text}
 use Rattle.volume_files.specs.vm_script.PlanSeen.{PlanSeen}
 use Rattle.volume_files.specs.vm_script.Plans.{plan_of}
-use Rattle.volume_files.specs.vm_script.Rules.{broken_rule}
+use Rattle.volume_files.specs.vm_script.Rules.{broken_rule, is_join}
 use Rattle.volume_files.specs.declared.stops.Refusal.TheVariants as refusal
 use Rattle.vm_run.specs.declared.ending.Ending.{Ending}
 use Rattle.vm_run.specs.declared.ending.Ending.TheVariants as ending
@@ -56,9 +56,9 @@ is_served_act (act.Call c) = is_served_call c
 is_served_act (act.Named name c) = is_served_named c
 is_served_act a = false
 
--- The script has more than one block, or a line whose call isn't served yet.
+-- The script joins disks, or has more than one block, or a line whose call isn't served yet.
 abbrev pub is_later : PlanSeen → Bool
-is_later plan = nat_lt 1 (length plan.parents) || not (list_all (λ l. is_served_act l.act) plan.lines)
+is_later plan = list_any (λ l. is_join l.act) plan.setup || (nat_lt 1 (length plan.parents) || not (list_all (λ l. is_served_act l.act) plan.lines))
 
 -- The plan may be run, as far as it alone tells; or the rule that it breaks.
 abbrev pub by_rules : Options → PlanSeen → Option ℕ → Result Asked Ending

@@ -1,8 +1,9 @@
 //! What is asked is read.
 ghost use Rattle.std.specs.Prelude.{List, Option, ℕ, None, ◌≡◌, ◌≤◌, IfErr, IfOk, IfSome, Ok, map, string_bytes};
-ghost use Rattle.std.specs.List.{list_all};
+ghost use Rattle.std.specs.List.{list_all, list_any};
 ghost use Rattle.volume_files.specs.block_device.declared.rack.Spec.{Spec};
 ghost use Rattle.volume_files.specs.vm_script.Plans.{plan_of};
+ghost use Rattle.volume_files.specs.vm_script.Rules.{is_join};
 ghost use Rattle.vm_run.specs.Asked as asked;
 ghost use Rattle.vm_run.specs.Course.{AskEnds};
 ghost use Rattle.vm_run.specs.Reading.{IsSpelled, SaysScript, ScriptStops, SourceStops, TakesPlan, TextStops, UnlessUnread};
@@ -11,8 +12,8 @@ use crate::ending::Ending;
 use command_line::{Options, read_options};
 use std::alloc::Global;
 use volume_files::{
-    Call, MOST_BYTES, Plan, PlanAct, PlanLine, ReadFault, Refusal, Source, broken_rule, generate,
-    parse, read_to_limit, sound_law,
+    Call, MOST_BYTES, Plan, PlanAct, PlanLine, ReadFault, Refusal, SetupAct, SetupLine, Source,
+    broken_rule, generate, parse, read_to_limit, sound_law,
 };
 
 // A mapping.
@@ -56,11 +57,17 @@ fn are_served(lines: &[PlanLine]) -> bool
     lines.iter().all(|l| is_served_act(&l.act))
 }
 
-// The script has more than one block, or a line whose call isn't served yet.
+fn joins_disks(setup: &[SetupLine]) -> bool
+    ensures { result ≡ list_any (λ l. is_join l.act) setup.now }
+{
+    setup.iter().any(|l| matches!(l.act, SetupAct::Join { .. }))
+}
+
+// The script joins disks, or has more than one block, or a line whose call isn't served yet.
 fn is_later(plan: &Plan) -> bool
     ensures { result ≡ asked.is_later plan.now }
 {
-    plan.parents().len() > 1 || !are_served(plan.lines())
+    joins_disks(plan.setup()) || plan.parents().len() > 1 || !are_served(plan.lines())
 }
 
 // The bytes of the source, or a front of them that is too long for a script.

@@ -42,6 +42,7 @@ right_low (given.Swap n) d right high = refl
 right_low (given.Translations n) d right high = refl
 right_low (given.Blank disk blocks) d right high = grind (rules, tests, arith, nat_tests, right, high)
 right_low (given.Path disk path) d right high = grind (rules, tests, arith, nat_tests, right, high)
+right_low (given.Join disk other mirror) d right high = refl
 right_low (given.File name writable disk pages bytes) d right high = refl
 
 -- where the disks are right, none has a number above 7
@@ -61,6 +62,7 @@ lacks_same setup disks is right (given.Swap n) = refl
 lacks_same setup disks is right (given.Translations n) = refl
 lacks_same setup disks is right (given.Blank disk blocks) = refl
 lacks_same setup disks is right (given.Path disk path) = refl
+lacks_same setup disks is right (given.Join disk other mirror) = refl
 lacks_same setup disks is right (given.File name writable disk pages bytes) =
     ⊎_elim
     (λ yes. ap (λ b. b || not (slice_index_or disks disk false)) yes ∙ ap not (sym (none_high setup disk right yes)))

@@ -26,7 +26,7 @@ use Rattle.vm_script.specs.Fields.{is_word, digits_at, number_of_field, is_file_
 use Rattle.vm_script.specs.Reading.{◌>>=◌, ◌>>◌, or_fault, need}
 use Rattle.vm_script.specs.Statements.{number, name, bytes, size, prot, kind, place, load_line, store_line, map_object, map_of, map_line, unmap_line}
 use Rattle.vm_script.specs.Statements.{protect_of, protect_line, sync_line, read_of, read_call_line, write_of, write_line, truncate_line, lone_word}
-use Rattle.vm_script.specs.Statements.{own_statement, amount, path, disk_setup, disk, content, mode, file_setup, file, disk_statement}
+use Rattle.vm_script.specs.Statements.{own_statement, amount, path, disk_setup, disk, join_form, join_setup, join, content, mode, file_setup, file, disk_statement}
 use Rattle.vm_script.specs.Statements.{setup_statement}
 use Rattle.vm_script.specs.Statements.{block_statement, file_statement, mapping_statement, word_statement, statement, is_comment}
 use Rattle.vm_script.specs.Printed.{IsPlanAct, IsContent, AreBytes, may_stand, setup_may_stand}
@@ -263,6 +263,16 @@ disk_stands spot (d ∷ f ∷ x ∷ []) ok =
     (λ _. choice (is_word f (codes "path")) _ _ P (λ _. bind (path x) _ P (λ m k. ok)) (λ _. tt)))
 disk_stands spot (d ∷ f ∷ x ∷ b ∷ more) ok = tt
 
+join_stands : (spot : LineSpot) (args : List (List ℕ)) → spot.opening ≡ true → IfOk (join args) (λ a. setup_may_stand spot a ≡ true)
+unfolding join join_setup
+join_stands spot [] ok = tt
+join_stands spot (d ∷ []) ok = tt
+join_stands spot (d ∷ f ∷ []) ok = tt
+join_stands spot (d ∷ f ∷ x ∷ []) ok =
+    let P : SetupAct → Type 0 = λ a. setup_may_stand spot a ≡ true in
+    bind (number d) _ P (λ n e. bind (join_form f) _ P (λ m k. bind (number x) _ P (λ o h. ok)))
+join_stands spot (d ∷ f ∷ x ∷ b ∷ more) ok = tt
+
 file_stands : (spot : LineSpot) (args : List (List ℕ)) → spot.opening ≡ true → IfOk (file args) (λ a. setup_may_stand spot a ≡ true)
 unfolding file file_setup
 file_stands spot [] ok = tt
@@ -281,13 +291,19 @@ disk_statement_is spot word args =
     choice (is_word word (codes "disk")) _ _ (IsPlaced spot)
     (λ _. needed fault.Place spot.opening _ (IsPlaced spot)
     (λ ok. bind (disk args) _ (IsPlaced spot) (λ a e. (disk_may spot a args ok e, tt))))
+    (λ _. choice (is_word word (codes "join")) _ _ (IsPlaced spot)
+    (λ _. needed fault.Place spot.opening _ (IsPlaced spot)
+    (λ ok. bind (join args) _ (IsPlaced spot) (λ a e. (join_may spot a args ok e, tt))))
     (λ _. choice (is_word word (codes "file")) _ _ (IsPlaced spot)
     (λ _. needed fault.Place spot.opening _ (IsPlaced spot)
     (λ ok. bind (file args) _ (IsPlaced spot) (λ a e. (file_may spot a args ok e, tt))))
-    (λ _. tt))
+    (λ _. tt)))
   where
     disk_may : (spot : LineSpot) (a : SetupAct) (args : List (List ℕ)) → spot.opening ≡ true → disk args ≡ Ok a → setup_may_stand spot a ≡ true
     disk_may spot a args ok e = if_ok (disk args) (λ a. setup_may_stand spot a ≡ true) a (disk_stands spot args ok) e
+
+    join_may : (spot : LineSpot) (a : SetupAct) (args : List (List ℕ)) → spot.opening ≡ true → join args ≡ Ok a → setup_may_stand spot a ≡ true
+    join_may spot a args ok e = if_ok (join args) (λ a. setup_may_stand spot a ≡ true) a (join_stands spot args ok) e
 
     file_may : (spot : LineSpot) (a : SetupAct) (args : List (List ℕ)) → spot.opening ≡ true → file args ≡ Ok a → setup_may_stand spot a ≡ true
     file_may spot a args ok e = if_ok (file args) (λ a. setup_may_stand spot a ≡ true) a (file_stands spot args ok) e

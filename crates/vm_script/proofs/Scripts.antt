@@ -28,7 +28,7 @@ use Rattle.vm_script.specs.Lines.{is_plain, fields, lines}
 use Rattle.vm_script.specs.Plans.{OpenPlan, empty_plan, plan_seen, with_statement, spot_of, plan_from, plan_of}
 use Rattle.vm_script.specs.Statements.{name, bytes, size, prot, kind, place, mode, content, path, load_line, store_line, map_object, map_of, map_line}
 use Rattle.vm_script.specs.Statements.{unmap_line, protect_of, protect_line, sync_line, read_of, read_call_line, write_of, write_line, truncate_line}
-use Rattle.vm_script.specs.Statements.{disk_setup, disk, file_setup, file, disk_statement, setup_statement, block_statement, file_statement}
+use Rattle.vm_script.specs.Statements.{disk_setup, disk, join_form, join_setup, join, file_setup, file, disk_statement, setup_statement, block_statement, file_statement}
 use Rattle.vm_script.specs.Statements.{mapping_statement, word_statement, statement, unknown_file}
 use Rattle.vm_script.specs.Quick.{AreWords, none, more}
 use Rattle.vm_script.specs.Texts.{hex_text, prot_text, kind_text}
@@ -132,6 +132,15 @@ path_back : (d : ℕ) (p : List ℕ) → IsNumber d → length p ≤ 255 → dis
 unfolding disk disk_setup path
 path_back d p h short = let t : nat_le (length p) 255 ≡ true = grind (arith, nat_tests, short) in rw (number_text d h, t) refl
 
+join_form_back : (m : Bool) → join_form (if m then codes "mirror" else codes "stripe") ≡ Ok m
+unfolding join_form
+join_form_back true = refl
+join_form_back false = refl
+
+join_back : (d e : ℕ) (m : Bool) → IsNumber d → IsNumber e → join (decimal d ∷ (if m then codes "mirror" else codes "stripe") ∷ decimal e ∷ []) ≡ Ok (given.Join d e m)
+unfolding join join_setup
+join_back d e m h k = rw (number_text d h, join_form_back m, number_text e k) refl
+
 mode_back : (w : Bool) → mode (if w then codes "rw" else codes "ro") ≡ Ok w
 unfolding mode
 mode_back true = refl
@@ -188,6 +197,7 @@ setup_back spot (given.Swap n) may h = rw (may, number_text n h) refl
 setup_back spot (given.Translations n) may h = rw (may, number_text n h) refl
 setup_back spot (given.Blank d n) may h = rw (may, blank_back d n h.0 h.1) refl
 setup_back spot (given.Path d p) may h = rw (may, path_back d p h.0 h.2) refl
+setup_back spot (given.Join d e m) may h = rw (may, join_back d e m h.0 h.1) refl
 setup_back spot (given.File n w d p text) may h = rw (may, file_back n w d p text h.0 h.1 h.2 h.3 h.4) refl
 
 statement_back : (spot : LineSpot) (s : Statement) → may_stand spot s ≡ true → IsStatement s → statement spot true (statement_fields s) ≡ Ok s
@@ -217,6 +227,10 @@ kind_words kinds.Private h = more refl refl h
 place_words : (p : Place) {fs : List (List ℕ)} → IsPlace p → AreWords fs → AreWords (place_text p ∷ fs)
 place_words (At a) is h = words_number a is h
 place_words Any is h = more refl refl h
+
+join_form_is_word : (m : Bool) {fs : List (List ℕ)} → AreWords fs → AreWords ((if m then codes "mirror" else codes "stripe") ∷ fs)
+join_form_is_word true h = more refl refl h
+join_form_is_word false h = more refl refl h
 
 mode_is_word : (w : Bool) {fs : List (List ℕ)} → AreWords fs → AreWords ((if w then codes "rw" else codes "ro") ∷ fs)
 mode_is_word true h = more refl refl h
@@ -266,6 +280,7 @@ setup_words (given.Swap n) h = more refl refl (words_number n h none)
 setup_words (given.Translations n) h = more refl refl (words_number n h none)
 setup_words (given.Blank d n) h = more refl refl (words_number d h.0 (more refl refl (words_number n h.1 none)))
 setup_words (given.Path d p) h = more refl refl (words_number d h.0 (more refl refl (more h.3 (some_isnt_empty p h.1) none)))
+setup_words (given.Join d e m) h = more refl refl (words_number d h.0 (join_form_is_word m (words_number e h.1 none)))
 setup_words (given.File n w d p text) h = more refl refl (words_name n h.0 (mode_is_word w (words_number d h.1 (words_number p h.2 (content_words text h.4)))))
 
 statement_words : (s : Statement) → IsStatement s → AreWords (statement_fields s)

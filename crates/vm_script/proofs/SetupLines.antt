@@ -26,7 +26,7 @@ use Rattle.vm_script.specs.Printed.{IsSetupAct, AreBytes}
 use Rattle.vm_script.specs.Quick.{AreWords, none, more}
 use Rattle.vm_script.specs.Reading.{◌>>◌, need}
 use Rattle.vm_script.specs.Sound.{IsSoundSetup}
-use Rattle.vm_script.specs.Statements.{number, name, bytes, amount, path, disk_setup, disk, content, mode, file_setup, file, own_statement, lone_word}
+use Rattle.vm_script.specs.Statements.{number, name, bytes, amount, path, disk_setup, disk, join_form, join_setup, join, content, mode, file_setup, file, own_statement, lone_word}
 use Rattle.vm_script.specs.Statements.{load_line, store_line, map_line, unmap_line, protect_line, sync_line, read_call_line, write_line}
 use Rattle.vm_script.specs.Statements.{truncate_line, disk_statement, setup_statement, block_statement, file_statement, mapping_statement, word_statement, statement}
 use Rattle.vm_script.specs.Statements.{is_comment}
@@ -109,6 +109,14 @@ disk_is (d ∷ f ∷ x ∷ []) w =
     (λ _. choice (is_word f (codes "path")) _ _ IsSetupAct (λ _. bind (path x) _ IsSetupAct (λ m k. let p = path_is x m last k in (number_is d n e, p.0, p.1, p.2))) (λ _. tt)))
 disk_is (d ∷ f ∷ x ∷ b ∷ args) w = tt
 
+join_is : (args : List (List ℕ)) → IfOk (join args) IsSetupAct
+unfolding join join_setup
+join_is [] = tt
+join_is (d ∷ []) = tt
+join_is (d ∷ f ∷ []) = tt
+join_is (d ∷ f ∷ e ∷ []) = bind (number d) _ IsSetupAct (λ n en. bind (join_form f) _ IsSetupAct (λ m em. bind (number e) _ IsSetupAct (λ k ek. (number_is d n en, number_is e k ek))))
+join_is (d ∷ f ∷ e ∷ b ∷ args) = tt
+
 content_is : (field t : List ℕ) → content field ≡ Ok t → (length t ≤ 65536) × AreBytes t
 unfolding content
 content_is field t e = from (is_word field (codes "-")) e
@@ -138,10 +146,13 @@ disk_statement_is : (spot : LineSpot) (word : List ℕ) (args : List (List ℕ))
 unfolding disk_statement
 disk_statement_is spot word args w =
     choice (is_word word (codes "disk")) _ _ SetupIs (λ _. needed fault.Place spot.opening _ SetupIs (λ _. bind (disk args) _ SetupIs (λ a e. if_ok (disk args) IsSetupAct a (disk_is args w) e)))
+    (λ _. choice (is_word word (codes "join")) _ _ SetupIs
+    (λ _. needed fault.Place spot.opening _ SetupIs
+    (λ _. bind (join args) _ SetupIs (λ a e. if_ok (join args) IsSetupAct a (join_is args) e)))
     (λ _. choice (is_word word (codes "file")) _ _ SetupIs
     (λ _. needed fault.Place spot.opening _ SetupIs
     (λ _. bind (file args) _ SetupIs (λ a e. if_ok (file args) IsSetupAct a (file_is args) e)))
-    (λ _. tt))
+    (λ _. tt)))
 
 setup_is : (spot : LineSpot) (word : List ℕ) (args : List (List ℕ)) → AreWords args → IfOk (setup_statement spot word args) SetupIs
 unfolding setup_statement

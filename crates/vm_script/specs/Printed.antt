@@ -56,6 +56,8 @@ setup_fields (given.Swap n) = codes "swap" ∷ decimal n ∷ []
 setup_fields (given.Translations n) = codes "translations" ∷ decimal n ∷ []
 setup_fields (given.Blank disk blocks) = codes "disk" ∷ decimal disk ∷ codes "blank" ∷ decimal blocks ∷ []
 setup_fields (given.Path disk path) = codes "disk" ∷ decimal disk ∷ codes "path" ∷ path ∷ []
+setup_fields (given.Join disk other mirror) =
+    codes "join" ∷ decimal disk ∷ (if mirror then codes "mirror" else codes "stripe") ∷ decimal other ∷ []
 setup_fields (given.File name writable disk pages bytes) =
     codes "file" ∷ name ∷ (if writable then codes "rw" else codes "ro") ∷ decimal disk ∷ decimal pages ∷ content_text bytes ∷ []
 
@@ -114,6 +116,7 @@ IsSetupAct (given.Swap n) = IsNumber n
 IsSetupAct (given.Translations n) = IsNumber n
 IsSetupAct (given.Blank disk blocks) = IsNumber disk × IsNumber blocks
 IsSetupAct (given.Path disk path) = IsNumber disk × (1 ≤ length path) × (length path ≤ 255) × IsTrue (list_all is_graphic path)
+IsSetupAct (given.Join disk other mirror) = IsNumber disk × IsNumber other
 IsSetupAct (given.File name writable disk pages bytes) = IsTrue (is_file_name name) × IsNumber disk × IsNumber pages × (length bytes ≤ 65536) × AreBytes bytes
 
 -- What a line may say.

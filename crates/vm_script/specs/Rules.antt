@@ -70,6 +70,45 @@ abbrev pub is_wrong_file : SetupAct → Bool
 is_wrong_file (given.File name writable disk pages bytes) = not (is_from_to 1 16383 pages) || nat_lt (pages * 4096) (length bytes)
 is_wrong_file a = false
 
+-- The line joins two disks.
+abbrev pub is_join : SetupAct → Bool
+is_join (given.Join disk other mirror) = true
+is_join a = false
+
+-- The line joins the disk of this number to another.
+abbrev pub joins_disk : ℕ → SetupAct → Bool
+joins_disk d (given.Join disk other mirror) = (disk == d) || (other == d)
+joins_disk d a = false
+
+-- The line is that of a file on the disk of this number.
+abbrev pub lays_file_on : ℕ → SetupAct → Bool
+lays_file_on d (given.File name writable disk pages bytes) = disk == d
+lays_file_on d a = false
+
+-- One of these lines gives the disk of this number, and no two of them join it.
+abbrev pub can_be_joined : List SetupLine → ℕ → Bool
+can_be_joined setup d = list_any (λ l. gives_disk d l.act) setup && nat_le (count_by (λ l. joins_disk d l.act) setup) 1
+
+-- The first disk of a join can't be joined, or is the second too.
+abbrev pub is_wrong_first : List SetupLine → ℕ → ℕ → Bool
+is_wrong_first setup disk other = (disk == other) || not (can_be_joined setup disk)
+
+-- The second disk of a join can't be joined, or has a file.
+abbrev pub is_wrong_second : List SetupLine → ℕ → Bool
+is_wrong_second setup other = not (can_be_joined setup other) || list_any (λ l. lays_file_on other l.act) setup
+
+-- The line joins disks of which one is wrong in its place.
+abbrev pub is_wrong_pair : List SetupLine → ℕ → ℕ → Bool
+is_wrong_pair setup disk other = is_wrong_first setup disk other || is_wrong_second setup other
+
+abbrev pub is_wrong_join : List SetupLine → SetupAct → Bool
+is_wrong_join setup (given.Join disk other mirror) = is_wrong_pair setup disk other
+is_wrong_join setup a = false
+
+-- The rule of joined disks, where a line breaks it.
+abbrev pub broken_join : List SetupLine → Option ℕ
+broken_join setup = if list_any (λ l. is_wrong_join setup l.act) setup then Some 14 else None
+
 -- The first of these rules that the plan breaks, by its number.
 abbrev pub broken_rule : PlanSeen → Option ℕ
 broken_rule plan =
@@ -81,4 +120,4 @@ broken_rule plan =
     else if list_any (λ l. is_wrong_file l.act) plan.setup then Some 6
     else if nat_lt 64 (length plan.parents) then Some 7
     else if nat_lt 1048576 (entry_count plan.lines) then Some 8
-    else None
+    else broken_join plan.setup

@@ -191,6 +191,25 @@ unfoldable pub disk : List (List ℕ) → Result SetupAct ScriptKind
 disk (d ∷ form ∷ x ∷ []) = disk_setup d form x
 disk args = Err fault.Count
 
+-- How a line joins two disks, `stripe` or `mirror`: whether it mirrors them.
+unfoldable pub join_form : List ℕ → Result Bool ScriptKind
+join_form field =
+    if is_word field (codes "stripe") then Ok false
+    else if is_word field (codes "mirror") then Ok true
+    else Err fault.Value
+
+-- `join D stripe E` and `join D mirror E`
+unfoldable pub join_setup : List ℕ → List ℕ → List ℕ → Result SetupAct ScriptKind
+join_setup d form e = do
+  disk ← number d
+  mirror ← join_form form
+  other ← number e
+  Ok (given.Join disk other mirror)
+
+unfoldable pub join : List (List ℕ) → Result SetupAct ScriptKind
+join (d ∷ form ∷ e ∷ []) = join_setup d form e
+join args = Err fault.Count
+
 -- The bytes that a file begins with: BYTES, or `-` for none.
 unfoldable pub content : List ℕ → Result (List ℕ) ScriptKind
 content field = if is_word field (codes "-") then Ok [] else bytes field
@@ -215,10 +234,11 @@ own_statement r = r >>= λ a. Ok (says.Own a)
 abbrev pub setup : Result SetupAct ScriptKind → Result Statement ScriptKind
 setup r = r >>= λ a. Ok (says.Setup a)
 
--- What a line of this word says that gives a disk or a file.
+-- What a line of this word says that gives a disk or a file, or joins two disks.
 unfoldable pub disk_statement : LineSpot → List ℕ → List (List ℕ) → Result Statement ScriptKind
 disk_statement spot word args =
     if is_word word (codes "disk") then (need fault.Place spot.opening >> setup (disk args))
+    else if is_word word (codes "join") then (need fault.Place spot.opening >> setup (join args))
     else if is_word word (codes "file") then (need fault.Place spot.opening >> setup (file args))
     else Err fault.Word
 

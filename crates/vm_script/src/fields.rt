@@ -116,6 +116,19 @@ pub fn mode(field: &[u8]) -> Result<bool, ReadError>
     Err(ReadError::Fault(ScriptKind::Value))
 }
 
+#[tactic(auto, unfolding(crate::specs::Statements::join_form))]
+pub fn join_form(field: &[u8]) -> Result<bool, ReadError>
+    ensures { IsReadAs (λ b. b) result (statements.join_form field.now) }
+{
+    if field == b"stripe".as_slice() {
+        return Ok(false);
+    }
+    if field == b"mirror".as_slice() {
+        return Ok(true);
+    }
+    Err(ReadError::Fault(ScriptKind::Value))
+}
+
 #[tactic(auto, unfolding(crate::specs::Statements::path))]
 pub fn path(alloc: Global, field: &[u8]) -> Result<ByteText, ReadError>
     ensures { IsReadAs (λ t. t) result (statements.path field.now) }

@@ -26,6 +26,12 @@ pub enum SetupAct {
         disk: u32,
         path: ByteText,
     },
+    /// Two disks that stand for one: mirrored, or else striped.
+    Join {
+        disk: u32,
+        other: u32,
+        mirror: bool,
+    },
     /// A file of at most so many pages, and the bytes that it begins with.
     File {
         name: ByteText,

@@ -179,6 +179,84 @@ fn has_wrong_file(setup: &[SetupLine]) -> bool
     setup.iter().any(|l| is_wrong_file(&l.act))
 }
 
+fn joins_disk(disk: u32, act: &SetupAct) -> bool
+    ensures { result ≡ rules.joins_disk disk act.now }
+{
+    match act {
+        SetupAct::Join {
+            disk: first,
+            other,
+            ..
+        } => *first == disk || *other == disk,
+        _ => false,
+    }
+}
+
+fn lays_file_on(disk: u32, act: &SetupAct) -> bool
+    ensures { result ≡ rules.lays_file_on disk act.now }
+{
+    match act {
+        SetupAct::File { disk: on, .. } => *on == disk,
+        _ => false,
+    }
+}
+
+fn can_be_joined(setup: &[SetupLine], disk: u32) -> bool
+    ensures { result ≡ rules.can_be_joined setup.now disk }
+{
+    let joins = setup.iter().filter(|l| joins_disk(disk, &l.act)).count();
+    give_disk(setup, disk) && joins <= 1
+}
+
+fn has_file_on(setup: &[SetupLine], disk: u32) -> bool
+    ensures { result ≡ list_any (λ l. rules.lays_file_on disk l.act) setup.now }
+{
+    setup.iter().any(|l| lays_file_on(disk, &l.act))
+}
+
+fn is_wrong_first(setup: &[SetupLine], disk: u32, other: u32) -> bool
+    ensures { result ≡ rules.is_wrong_first setup.now disk other }
+{
+    disk == other || !can_be_joined(setup, disk)
+}
+
+fn is_wrong_second(setup: &[SetupLine], other: u32) -> bool
+    ensures { result ≡ rules.is_wrong_second setup.now other }
+{
+    !can_be_joined(setup, other) || has_file_on(setup, other)
+}
+
+fn is_wrong_pair(setup: &[SetupLine], disk: u32, other: u32) -> bool
+    ensures { result ≡ rules.is_wrong_pair setup.now disk other }
+{
+    is_wrong_first(setup, disk, other) || is_wrong_second(setup, other)
+}
+
+fn is_wrong_join(setup: &[SetupLine], act: &SetupAct) -> bool
+    ensures { result ≡ rules.is_wrong_join setup.now act.now }
+{
+    match act {
+        SetupAct::Join { disk, other, .. } => is_wrong_pair(setup, *disk, *other),
+        _ => false,
+    }
+}
+
+// Where disks are given once each, at most four joins are right, and the search ends at the first that isn't.
+fn has_wrong_join(setup: &[SetupLine]) -> bool
+    ensures { result ≡ list_any (λ l. rules.is_wrong_join setup.now l.act) setup.now }
+{
+    setup.iter().any(|l| is_wrong_join(setup, &l.act))
+}
+
+fn broken_join(setup: &[SetupLine]) -> Option<u32>
+    ensures { result ≡ rules.broken_join setup.now }
+{
+    if has_wrong_join(setup) {
+        return Some(14);
+    }
+    None
+}
+
 fn has_wrong_frames(setup: &[SetupLine], amounts: Amounts) -> bool
     requires { amounts ≡ rules.amounts_of setup.now }
     ensures { result ≡ rules.has_wrong_frames setup.now }
@@ -188,7 +266,7 @@ fn has_wrong_frames(setup: &[SetupLine], amounts: Amounts) -> bool
     frames > 4096 || disk_lines(setup) > 4096 || frames < disk_lines(setup) + swap + 4
 }
 
-/// The first of the set-up rules 1 to 8, which look at the script alone, that the plan breaks.
+/// The first of the set-up rules 1 to 8 and 14, which look at the script alone, that the plan breaks.
 pub fn broken_rule(plan: &Plan) -> Option<u32>
     ensures { result ≡ rules.broken_rule plan.now }
 {
@@ -218,5 +296,5 @@ pub fn broken_rule(plan: &Plan) -> Option<u32>
     if needs_too_many(plan.lines()) {
         return Some(8);
     }
-    None
+    broken_join(setup)
 }

@@ -4,7 +4,7 @@ ghost use Rattle.vm_script.specs.Reading.{IsReadAs};
 ghost use Rattle.vm_script.specs.Statements as statements;
 
 use crate::fault::{ReadError, ScriptKind};
-use crate::fields::{content, mode, name, need, number, path};
+use crate::fields::{content, join_form, mode, name, need, number, path};
 use crate::plan::SetupAct;
 use crate::statement::{LineSpot, Statement};
 use std::alloc::Global;
@@ -42,6 +42,30 @@ fn disk(alloc: Global, args: &[&[u8]]) -> Result<SetupAct, ReadError>
         return Err(ReadError::Fault(ScriptKind::Count));
     };
     disk_setup(alloc, d, form, x)
+}
+
+#[tactic(auto, unfolding(crate::specs::Statements::join_setup))]
+fn join_setup(d: &[u8], form: &[u8], e: &[u8]) -> Result<SetupAct, ReadError>
+    ensures { IsReadAs (λ a. a) result (statements.join_setup d.now form.now e.now) }
+{
+    let disk = number(d)?;
+    let mirror = join_form(form)?;
+    let other = number(e)?;
+    Ok(SetupAct::Join {
+        disk,
+        other,
+        mirror,
+    })
+}
+
+#[tactic(auto, unfolding(crate::specs::Statements::join))]
+fn join(args: &[&[u8]]) -> Result<SetupAct, ReadError>
+    ensures { IsReadAs (λ a. a) result (statements.join (map (λ f. f.now) args.now)) }
+{
+    let [d, form, e] = args else {
+        return Err(ReadError::Fault(ScriptKind::Count));
+    };
+    join_setup(d, form, e)
 }
 
 #[tactic(auto, unfolding(crate::specs::Statements::file_setup))]
@@ -93,6 +117,10 @@ fn disk_statement(
     if word == b"disk".as_slice() {
         need(ScriptKind::Place, spot.opening)?;
         return Ok(Statement::Setup(disk(alloc, args)?));
+    }
+    if word == b"join".as_slice() {
+        need(ScriptKind::Place, spot.opening)?;
+        return Ok(Statement::Setup(join(args)?));
     }
     if word == b"file".as_slice() {
         need(ScriptKind::Place, spot.opening)?;

@@ -31,6 +31,7 @@ line-volume : (sizes : ℕ → ℕ) (files : List OpenedFile) (a : SetupAct) (n 
 line-volume sizes files (given.Frames k) n rule e = cc e
 line-volume sizes files (given.Swap k) n rule e = cc e
 line-volume sizes files (given.Translations k) n rule e = cc e
+line-volume sizes files (given.Join disk other mirror) n rule e = cc e
 line-volume sizes files (given.Blank disk blocks) n rule e = cc e
 line-volume sizes files (given.Path disk path) n rule e = cc e
 line-volume sizes files (given.File name writable disk pages bytes) n rule e = by-count (nat_le 64 (length files)) e

@@ -59,6 +59,7 @@ act-law : (act : SetupAct) → IsSetupAct act → is_wrong_file act ≡ false �
 act-law (given.Frames n) sound right = tt
 act-law (given.Swap n) sound right = tt
 act-law (given.Translations n) sound right = tt
+act-law (given.Join disk other mirror) sound right = tt
 act-law (given.Blank disk blocks) sound right = tt
 act-law (given.Path disk path) sound right = tt
 act-law (given.File name writable disk pages bytes) sound right =
@@ -103,6 +104,7 @@ law-placeable : (act : SetupAct) → LineLaw act → IsPlaceable act
 law-placeable (given.Frames n) law = tt
 law-placeable (given.Swap n) law = tt
 law-placeable (given.Translations n) law = tt
+law-placeable (given.Join disk other mirror) law = tt
 law-placeable (given.Blank disk blocks) law = tt
 law-placeable (given.Path disk path) law = tt
 law-placeable (given.File name writable disk pages bytes) law = (law.name_is.some, law.name_is.short, law.some, law.most, law.holds)
@@ -116,6 +118,7 @@ placeable-holds : (act : SetupAct) → IsPlaceable act → HoldsItsBytes act
 placeable-holds (given.Frames n) p = tt
 placeable-holds (given.Swap n) p = tt
 placeable-holds (given.Translations n) p = tt
+placeable-holds (given.Join disk other mirror) p = tt
 placeable-holds (given.Blank disk blocks) p = tt
 placeable-holds (given.Path disk path) p = tt
 placeable-holds (given.File name writable disk pages bytes) p =

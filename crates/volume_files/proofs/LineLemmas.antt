@@ -71,6 +71,7 @@ module _ (sizes : ℕ → ℕ) (L : SetupAct → Type 0) (P : List OpenedFile �
   act_keeps files (given.Frames n) law p = p
   act_keeps files (given.Swap n) law p = p
   act_keeps files (given.Translations n) law p = p
+  act_keeps files (given.Join disk other mirror) law p = p
   act_keeps files (given.Blank disk blocks) law p = p
   act_keeps files (given.Path disk path) law p = p
   act_keeps files (given.File name writable disk pages bytes) law p = file_keeps files name writable disk pages bytes law p

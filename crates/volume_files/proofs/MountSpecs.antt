@@ -22,6 +22,7 @@ given_number number (given.Path disk path) s g e = let same : spec.Path disk pat
 given_number number (given.Frames n) s g e = absurd (false≢true g)
 given_number number (given.Swap n) s g e = absurd (false≢true g)
 given_number number (given.Translations n) s g e = absurd (false≢true g)
+given_number number (given.Join disk other mirror) s g e = absurd (false≢true g)
 given_number number (given.File name writable disk pages bytes) s g e = absurd (false≢true g)
 
 -- The disk of a number as a front of the lines tells it.

@@ -150,6 +150,7 @@ act_adds : (sizes : ℕ → ℕ) (before : List OpenedFile) (act : SetupAct) →
 act_adds sizes before (given.Frames n) = refl
 act_adds sizes before (given.Swap n) = refl
 act_adds sizes before (given.Translations n) = refl
+act_adds sizes before (given.Join disk other mirror) = refl
 act_adds sizes before (given.Blank disk blocks) = refl
 act_adds sizes before (given.Path disk path) = refl
 act_adds sizes before (given.File name writable disk pages bytes) = file_adds sizes before name writable disk pages bytes
