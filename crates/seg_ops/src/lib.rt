@@ -40,7 +40,7 @@ pub use protects::protect;
 pub use ranges::drop_places;
 pub use rooms::{evict, make_room, make_room_beside, sync};
 pub use vm_world::{
-    AnonMaps, AnonSlots, Call, Entry, Errno, Files, Hat, Kind, Object, PAGE_SIZE, Place, Prot,
-    Ranges, Reply, Segment, Signal, Wants, World, ZeroObjects, bytes_before, is_range, page_of,
-    pages_in, part_file,
+    AnonMaps, AnonSlots, Call, Entry, Errno, Files, Hat, Kind, Line, Object, PAGE_SIZE, Place,
+    Prot, Ranges, Reply, Segment, Signal, Wants, World, ZeroObjects, bytes_before, is_range,
+    line_rest, page_of, pages_in, part_file,
 };

@@ -10,8 +10,8 @@ pub use addr_space::Ranges;
 pub use anon_map::AnonMaps;
 pub use anon_slots::AnonSlots;
 pub use flat_model::{
-    Call, Entry, Errno, Files, Kind, Object, PAGE_SIZE, Place, Prot, Reply, Signal, bytes_before,
-    is_range, page_of, pages_in, part_file, word_at, word_bytes,
+    Call, Entry, Errno, Files, Kind, Line, Object, PAGE_SIZE, Place, Prot, Reply, Signal,
+    bytes_before, is_range, line_rest, page_of, pages_in, part_file, word_at, word_bytes,
 };
 pub use hat_layer::{Dropped, Hat};
 pub use laws::{
