@@ -30,23 +30,9 @@ use Rattle.seg_ops.specs.Plans.{FetchesPage}
 use Rattle.seg_ops.proofs.Composed.{keeps-same}
 use Rattle.seg_ops.proofs.NewlyModified.{none-then}
 use Rattle.seg_ops.proofs.StillSteps.{memory_of}
+use Rattle.home_pages.proofs.Takes.{takes-none}
+use Rattle.home_pages.proofs.Replacements.{none-replaced}
 use Rattle.seg_map.specs.Served.{ServesWant}
-
--- NO FRAME IS TAKEN.
-or-false : (b : Bool) → (b || false) ≡ b
-or-false true = refl
-or-false false = refl
-
-abbrev pub takes-none : (old new : World) (spaces : Spaces) (pending : ℕ) → KeepsPages old new spaces → TakesFrames (memory_of old spaces) new pending pending
-takes-none old new spaces pending keeps = record {
-  cut = λ name. false;
-  step = keeps;
-  pends = record { bits = λ g lt. sym (or-false (is_bit_set pending g)); below = λ below. below };
-  took = λ name cut. absurd (let z : false ≡ true = cut in cc);
-}
-
-pub none-replaced : (old new : World) → AreReplaced old new (λ name. false)
-none-replaced old new name cut = absurd (let z : false ≡ true = cut in cc)
 
 some-of : {A : Type 0} (o : Option A) → IsSome o → (x : A) × (o ≡ Some x)
 some-of None is = absurd (let z : false ≡ true = is in cc)
