@@ -1,5 +1,5 @@
 -- THE TABLE OF PLACES once a file got another end, and files that fit.
-use Rattle.std.proofs.Common.{◌≡◌, ◌≢◌, ℕ, ◌+◌, ◌^◌, ◌<◌, ◌≤◌, ◌==◌, ◌&&◌, Bool, true, false, cond, List, [], ◌∷◌, length, map, Option, Some, None, refl, sym, ap, ◌∙◌, ◌⊎◌, inl, inr, subst, arith, zero, suc}
+use Rattle.std.proofs.Common.{◌≡◌, ◌≢◌, ℕ, ◌+◌, ◌^◌, ◌<◌, ◌≤◌, ◌==◌, ◌&&◌, Bool, false, cond, List, [], ◌∷◌, length, map, Option, Some, None, refl, sym, ap, ◌∙◌, ◌⊎◌, inl, inr, subst, arith, zero, suc}
 use Rattle.std.specs.Prelude.{IsTrue, IsSome, All, option_map, option_and_then, slice_get, slice_index_or, nat_lt, not, unwrap_or}
 use Rattle.std.specs.FinMap as finite
 use Rattle.std.specs.Ordering.{nat_cmp}
@@ -8,7 +8,7 @@ use Rattle.std.proofs.lemmas.Bool.Decides.{eqb_tells}
 use Rattle.std.proofs.lemmas.List.{length-map}
 use Rattle.std.proofs.lemmas.Option.{slice_get-map, slice_get_within, slice_get_cases}
 use Rattle.seg_ops.specs.page_hash.declared.PageName.{PageName}
-use Rattle.seg_ops.specs.page_store.Layout.{FileBlocks, KeepsPage, file_page_place, page_place, slot_place, own_place, is_slot, table_of}
+use Rattle.seg_ops.specs.page_store.Layout.{FileBlocks, KeepsPage, file_page_place, page_place, slot_place, own_place, is_slot}
 use Rattle.seg_ops.specs.page_store.declared.place.Place.{Place}
 use Rattle.seg_ops.proofs.page_store.LayoutLemmas.{place-cases}
 use Rattle.seg_ops.specs.anon_slots.Slots.{AnonSlotsSeen, count_at, is_used}
