@@ -62,20 +62,6 @@ objects-within first end z = record {
       | inr not_in ↦ ap (λ (b : Bool). cond b (one_if (is_number z (zero_in p.piece.object))) 0) not_in
     ]
 
--- one that is counted more
-pub counted-more : (counts : List ℕ) (number z : ℕ) → number < length counts → get_or (set counts number (get_or counts number 0 + 1)) z 0 ≡ get_or counts z 0 + one_if (is_number z (Some number))
-counted-more counts number z lt = elim (cases_eq z number) [
-  | inl same ↦
-      let one = ap one_if (eq-eqb number z (sym same)) in
-      let new = ap (λ (k : ℕ). get_or (set counts number (get_or counts number 0 + 1)) k 0) same ∙ get_or-set_same counts number (get_or counts number 0 + 1) 0 lt in
-      let old = ap (λ (k : ℕ). get_or counts k 0) same in
-      omega (arith, one, new, old)
-  | inr apart ↦
-      let none = ap one_if (ne_eqb number z (λ e. apart (sym e))) in
-      let new = get_or-set_other counts number z (get_or counts number 0 + 1) 0 apart in
-      omega (arith, none, new)
-]
-
 pub none-counted : (n z : ℕ) → get_or {A = ℕ} (replicate n 0) z 0 ≡ 0
 none-counted n z = elim (cases_lt z n) [
   | inl lt ↦ get_or-replicate n z 0 0 lt

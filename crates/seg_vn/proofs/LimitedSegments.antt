@@ -29,12 +29,6 @@ use Rattle.seg_vn.specs.Cuts.{IsPartAt}
 use Rattle.seg_vn.specs.Protections.{AreLimited}
 use Rattle.seg_vn.proofs.LeftSegments.{pages-are}
 
-pub limited-write : (places : List (Option Translation)) (space first n : ℕ) (prot : Prot) → can_write prot ≡ true → AreLimited places space first n prot
-limited-write places space first n prot may = record {
-  allowed = λ place t there a b c. or-right (can_read prot) (can_write prot) may;
-  writable = λ place t there a b c writes. may;
-}
-
 pub limited-read : (places : List (Option Translation)) (space first n : ℕ) (prot : Prot) → can_read prot ≡ true → ((q : ℕ) → first ≤ q → q < first + n → HasNoWriter places space q) → AreLimited places space first n prot
 limited-read places space first n prot may none = record {
   allowed = λ place t there a b c. or-left (can_read prot) (can_write prot) may;

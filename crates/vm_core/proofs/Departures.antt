@@ -37,10 +37,6 @@ kept-leaves opening s seats seat p kept fit k =
     let f = fit.plans.plan kept k.is in
     subst (λ (x : Plan). CanLeave s.memory.world x) k.same (can-leave s.memory kept.of kept.plan f.may f.frame)
 
-pub kept-ready : (opening : Flat) (s : KernelState) (seats : Seats) (seat : ℕ) (p : Plan) (kept : KeptPlan) → StateFits opening s seats → IsKeptFor s seat p kept → Waits s.memory.world.store (plan_page p) (world_table s.memory.world (plan_page p)).disk None
-kept-ready opening s seats seat p kept fit k =
-    subst (λ (x : Plan). Waits s.memory.world.store (plan_page x) (world_table s.memory.world (plan_page x)).disk None) k.same (fit.plans.plan kept k.is).ready
-
 -- WHAT IS KEPT after a flight left.
 pub kept-left : (old new : World) (zeros after : List (Option ℕ)) (spaces : Spaces) (entries : List ℕ) (seats seat : ℕ) (f : FlightSeen) (cut : PageName → Bool) → IsSoundKernel old.store zeros spaces entries seats → after ≡ zeros → WorldStep old new spaces (leaves seat (note_of f)) cut → IsSoundKernel new.store after spaces entries seats
 kept-left old new zeros after spaces entries seats seat f cut k same step =

@@ -120,10 +120,6 @@ locks-after H calls syncs seat p disk before after cleared call fit is follows f
     by_seat false other = others-stay seat f t (part_file call) calls
         (λ same. absurd (elim (eqb_tells p (suc t)) [ inl y ↦ (let z : true ≡ false = sym y.0 ∙ other in cc) | inr n ↦ n.1 (is ∙ ap suc (sym same)) ]))
 
--- no call but a fork bears
-io-bears : (q p : ℕ) (call : Call) (disk before after cleared : ℕ) → is_birth q (io_entry p call disk before after cleared) ≡ false
-io-bears q p call disk before after cleared = refl
-
 -- THE STARTS OF SYNCS AFTER A DEVICE ERROR.
 pub starts-after : (syncs : List (Option ℕ)) (seat p disk before after cleared : ℕ) (call : Call) → p ≡ suc seat → seat < length syncs
     → StartsAfter (io_entry p call disk before after cleared) syncs (slice_set syncs seat None)

@@ -15,11 +15,6 @@ at-within [] q lt = absurd (let z : 0 < 0 = lt in omega (arith, z))
 at-within (x ∷ xs) zero lt = omega arith
 at-within (x ∷ xs) (suc q) lt = let r = at-within xs q lt in omega (arith, r)
 
--- a process that may make an entry is one of the table
-pub within-room : (entries : List ℕ) (p : ℕ) → 0 < room_of entries p → (q : ℕ) × (p ≡ suc q) × (q < length entries)
-within-room entries zero lt = absurd (let z : 0 < 0 = lt in omega (arith, z))
-within-room entries (suc q) lt = (q, refl, at-within entries q lt)
-
 one : (b : Bool) (e : Entry) → length (cond b (e ∷ []) []) ≡ cond b 1 0
 one true e = refl
 one false e = refl
@@ -69,13 +64,6 @@ pushed H capacity entries left e q s is lt some = record {
           let now : slice_index (left_after left q) r ≡ slice_index left r = get_or-set_other left q r (slice_index left q - 1) 0 ne in
           omega (arith, was, more, now)
     ]
-
--- the place of a process that may make one more
-pub place-left : (H : List Entry) (capacity : ℕ) (entries left : List ℕ) (p : ℕ) → IsSoundLedger H capacity entries left → length (entries_of H p) < room_of entries p → (q : ℕ) × (p ≡ suc q) × (q < length left) × (0 < slice_index left q)
-place-left H capacity entries left zero s lt = absurd (let z : length (entries_of H 0) < 0 = lt in omega (arith, z))
-place-left H capacity entries left (suc q) s lt =
-    let was = s.counted (suc q) in
-    let some : 0 < slice_index left q = omega (arith, was, lt) in (q, refl, at-within left q some, some)
 
 -- there is room for one more
 pub has-room : (H : List Entry) (capacity : ℕ) (entries left : List ℕ) (q : ℕ) → IsSoundLedger H capacity entries left → q < length left → 0 < slice_index left q → length H < capacity

@@ -60,19 +60,6 @@ looks-away w spaces frame fits why = record {
     never (plan.Push name) q = elim why [ inl locked ↦ locked q.unlocked | inr listed ↦ listed-clean w spaces frame fits listed q.modified ]
     never (plan.Read name) q = q
 
--- THE PAGE IS REFERENCED.
-pub looks-used : (w u : World) (frame : ℕ) → GathersUse w u frame → (row_at u.store.rows frame).referenced ≡ true → BackLooks w u frame None
-looks-used w u frame g set = record {
-  touches = g.touches;
-  released = λ x. absurd (x.unreferenced (g.referenced.0 (inl set)));
-  left = λ n. record { cached = g.cached; modified = g.modified; referenced = g.referenced; loaded = g.loaded };
-  push = λ p. ((λ e. absurd (let z : ◌≡◌ {A = Option Plan} None (Some p) = e in cc)), (λ q. absurd (never p q)));
-}
-  where
-    never : (p : Plan) → IsPushOf w frame p → ⊥
-    never (plan.Push name) q = q.unreferenced (g.referenced.0 (inl set))
-    never (plan.Read name) q = q
-
 not-referenced : (w u : World) (frame : ℕ) → GathersUse w u frame → (row_at u.store.rows frame).referenced ≡ false → IsReferenced w.store w.hat.places frame → ⊥
 not-referenced w u frame g clear r = elim (g.referenced.1 r) [
   | inl set ↦ (let z : true ≡ false = sym set ∙ clear in cc)

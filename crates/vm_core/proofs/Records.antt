@@ -110,9 +110,6 @@ keeps-disk-then F G a b c k p q = record {
   blocks = other-blocks-then F G a.0 a.1.content b.1.content c.1.content k p.blocks (subst (λ (n : ℕ). KeepsOtherBlocks G n b.1.content c.1.content) p.number q.blocks);
 }
 
-pub keep-disks-refl : (F : FilesSeen) (L : List (ℕ × DiskSeen)) → KeepDisks F L L
-keep-disks-refl F L = record { count = refl; each = λ i lt. keeps-disk-refl F (disk_at L i) }
-
 pub keep-disks-then : (F G : FilesSeen) (L M N : List (ℕ × DiskSeen)) → KeepRecords F G → KeepDisks F L M → KeepDisks G M N → KeepDisks F L N
 keep-disks-then F G L M N k p q = record {
   count = q.count ∙ p.count;

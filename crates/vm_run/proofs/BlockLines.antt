@@ -170,9 +170,6 @@ record IsOneRun (q : ℕ) (lines : List PlanLine) : Type 0 where
   own : All (λ (l : PlanLine). l.process ≡ 1) lines
   inner : (i : ℕ) → suc i < length lines → IsFalse (is_exit (slice_index_or (line_calls lines) i call.Exit))
 
-front-served : (xs ys : List PlanLine) → ys ≡ [] → AreServed (xs ++ ys) → AreServed xs
-front-served xs ys none served = subst AreServed (ap (λ (zs : List PlanLine). xs ++ zs) none ∙ append-nil xs) served
-
 one-run : (q n m : ℕ) (lines : List PlanLine) → n ≡ 1 → m ≡ 2 → AreProcessBlocks (q ∷ []) n lines m → AreServed lines → IsOneRun q lines
 one-run q n m lines first last (over _) served = absurd (omega (arith, first, last))
 one-run q n m lines first last (block _ k _ own rest top body after) served = with_rest (rest-none (cases-le 2 k))

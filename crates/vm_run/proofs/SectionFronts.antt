@@ -51,11 +51,3 @@ sections-front heading infos bytes file page lt =
       r.0,
       r.1 ∙ ap (λ (n : ℕ). (file_sections heading (take file infos) bytes ++ file_section heading n (info_at infos file) (take (4096 * page) (bytes n))) ++ r.0) same,
     )
-
--- what was written up to the place of a page, behind a text that was written whole
-pub before-front : (k0 k1 : SinkSeen) (first text : List ℕ) (heading : Heading) (infos : List FileInfo) (bytes : ℕ → List ℕ) (file page : ℕ) → file < length infos
-    → Wrote k0 k1 (first ++ (text ++ sections_before heading infos bytes file page)) → WroteAndFront k0 k1 first (text ++ file_sections heading infos bytes)
-before-front k0 k1 first text heading infos bytes file page lt wrote =
-    let r = sections-front heading infos bytes file page lt in
-    let before = sections_before heading infos bytes file page in
-    subst (WroteAndFront k0 k1 first) (append_assoc text before r.0 ∙ ap (λ (t : List ℕ). text ++ t) (sym r.1)) (goes_on k0 k1 first (text ++ before) r.0 wrote)

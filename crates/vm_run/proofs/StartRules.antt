@@ -132,24 +132,6 @@ few-disks setup =
     let b = given-lines setup 0 8 in
     omega (arith, a, b)
 
--- THEIR NUMBERS
-own-number : (act : SetupAct) (n : ℕ) (s : Spec) → gives_disk n act ≡ true → given_disk act ≡ Some s → spec_number s ≡ n
-own-number (given.Blank disk blocks) n s gives is = let e : spec.Blank disk blocks ≡ s =
-    (let z : ◌≡◌ {A = Option Spec} (Some (spec.Blank disk blocks)) (Some s) = is in cc) in ap spec_number (sym e) ∙ equal disk n gives
-  where
-    equal : (a b : ℕ) → (a == b) ≡ true → a ≡ b
-    equal a b is = grind (arith, nat_tests)
-own-number (given.Path disk path) n s gives is = let e : spec.Path disk path ≡ s =
-    (let z : ◌≡◌ {A = Option Spec} (Some (spec.Path disk path)) (Some s) = is in cc) in ap spec_number (sym e) ∙ equal disk n gives
-  where
-    equal : (a b : ℕ) → (a == b) ≡ true → a ≡ b
-    equal a b is = grind (arith, nat_tests)
-own-number (given.Frames x) n s gives is = absurd (let z : false ≡ true = gives in cc)
-own-number (given.Swap x) n s gives is = absurd (let z : false ≡ true = gives in cc)
-own-number (given.Translations x) n s gives is = absurd (let z : false ≡ true = gives in cc)
-own-number (given.Join disk other mirror) n s gives is = absurd (let z : false ≡ true = gives in cc)
-own-number (given.File name writable disk pages bytes) n s gives is = absurd (let z : false ≡ true = gives in cc)
-
 -- numbers that rise, from a least one on
 abbrev Rise : ℕ → List ℕ → Type 0
 Rise low [] = Unit {0}
