@@ -1,7 +1,6 @@
 -- Calls that are done at once, with a plain reply.
 use Rattle.seg_vn.proofs.flat_model.Frames.{or_nothing as or-false}
-use Rattle.std.proofs.Common.{◌≡◌, ℕ, Bool, true, false, List, Option, refl, sym, ap, inr, subst}
-use Rattle.std.specs.Prelude.{◌||◌}
+use Rattle.std.proofs.Common.{◌≡◌, ℕ, true, false, List, Option, sym, ap, inr, subst}
 use Rattle.std.specs.FinMap as finite
 use Rattle.std.specs.FinSet as set
 use Rattle.std.specs.Ordering.{nat_cmp}
@@ -18,7 +17,6 @@ use Rattle.seg_vn.specs.vm_world.FlatMemory.{Memory, flat_memory}
 use Rattle.seg_vn.specs.vm_world.MemoryFits.{MemoryFits}
 use Rattle.seg_vn.specs.vm_world.Plans.{refusal_in}
 use Rattle.seg_vn.specs.vm_world.Serving.{ModifiesNone, TakesFrames, ServesDone}
-use Rattle.seg_vn.specs.vm_world.World.{World}
 use Rattle.seg_vn.specs.vm_world.declared.segment.Segment.{Segment}
 use Rattle.seg_vn.proofs.vm_world.SegmentSteps.{segment_rule}
 use Rattle.seg_vn.proofs.seg_ops.Composed.{keeps-same}

@@ -1,5 +1,5 @@
 -- What is left of a space without a range, and what the parts have in the range, is all.
-use Rattle.std.proofs.Common.{◌≡◌, ℕ, zero, suc, ◌+◌, ◌-◌, ◌<◌, ◌≤◌, Bool, true, false, cond, not, List, [], ◌∷◌, length, map, Option, Some, None, refl, sym, ap, ◌∙◌, inl, inr, arith, min, max}
+use Rattle.std.proofs.Common.{◌≡◌, ℕ, zero, suc, ◌+◌, ◌-◌, ◌<◌, ◌≤◌, Bool, true, false, cond, List, [], ◌∷◌, length, map, Option, Some, None, refl, sym, ap, ◌∙◌, inl, inr, arith}
 use Rattle.std.specs.Prelude.{option_map, sum_by}
 use Rattle.std.specs.Ordering.{nat_cmp}
 use Rattle.std.specs.Cmp.{nat_cmp_total}
@@ -16,14 +16,14 @@ use Rattle.seg_vn.proofs.addr_space.PartLemmas.{has-past, none-below}
 use Rattle.seg_vn.specs.flat_model.Flat.{Cell, Space, slots_for}
 use Rattle.seg_vn.specs.flat_model.Space.{is_in_range, without_range}
 use Rattle.seg_vn.specs.flat_model.Words.{Page}
-use Rattle.seg_vn.proofs.flat_model.Ranges.{get-insert, get-retain_keys, in_range-is, in_range-low, in_range-high}
+use Rattle.seg_vn.proofs.flat_model.Ranges.{get-insert, get-retain_keys, in_range-low, in_range-high}
 use Rattle.seg_vn.proofs.flat_model.Sums.{total, total-insert, total-without_range}
 use Rattle.seg_vn.specs.vm_world.FlatMemory.{cell_of, map_with, space_with}
 use Rattle.seg_vn.specs.vm_world.Segments.{Spot}
 use Rattle.seg_vn.specs.vm_world.declared.segment.Segment.{Segment}
 use Rattle.seg_vn.proofs.vm_world.Maps.{get-map_with}
 use Rattle.seg_vn.proofs.vm_world.Reserves.{total-empty, total-map_with}
-use Rattle.mmap_calls.specs.RangeCounts.{mapped_pages, pages_within, slots_of_range, slots_within}
+use Rattle.mmap_calls.specs.RangeCounts.{mapped_pages, pages_within, slots_of_range}
 
 abbrev Kept : finite.FinMap nat_cmp Spot → ℕ → ℕ → finite.FinMap nat_cmp Spot
 Kept m first n = finite.retain_keys m (is_in_range first n)

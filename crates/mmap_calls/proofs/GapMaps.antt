@@ -1,22 +1,22 @@
 -- A Map at the lowest gap is one at the gap's address; and where there is no gap, it is refused.
-use Rattle.std.proofs.Common.{◌≡◌, ℕ, ◌+◌, ◌-◌, ◌*◌, ◌<◌, ◌≤◌, Bool, true, false, cond, not, List, Option, Some, None, refl, sym, ap, ◌∙◌, subst, arith}
-use Rattle.std.specs.Prelude.{if◌then◌else◌, is_some, nat_le, IsSome, Result, Ok, Err, ok_or, ◌==◌, ◌%◌, ◌&&◌, option_map}
+use Rattle.std.proofs.Common.{◌≡◌, ℕ, ◌+◌, ◌-◌, ◌*◌, ◌<◌, ◌≤◌, Bool, true, false, not, List, Option, Some, None, refl, sym, ap, ◌∙◌, arith}
+use Rattle.std.specs.Prelude.{if◌then◌else◌, is_some, nat_le, IsSome, Result, Ok, Err, ok_or, ◌==◌, ◌%◌, option_map}
 use Rattle.std.specs.FinMap as finite
 use Rattle.std.specs.FinSet as set
 use Rattle.std.specs.Ordering.{nat_cmp}
 use Rattle.std.proofs.lemmas.Bool.{and_from, and_parts, le-leb}
 use Rattle.std.proofs.Math.Nat.{mul-div_cancel_left}
-use Rattle.seg_vn.specs.addr_space.Space.{Part, FindsGap, IsGap, page_total, part_at, piece_at}
+use Rattle.seg_vn.specs.addr_space.Space.{Part, FindsGap, page_total, part_at, piece_at}
 use Rattle.seg_vn.specs.page_store.Notes.{Notes}
 use Rattle.seg_vn.specs.vm_types.declared.call.Errno.{Errno}
 use Rattle.seg_vn.specs.vm_types.declared.call.Errno.TheVariants as errno
-use Rattle.seg_vn.specs.vm_types.declared.call.Place.TheVariants.{At, Any}
+use Rattle.seg_vn.specs.vm_types.declared.call.Place.TheVariants.{At}
 use Rattle.seg_vn.specs.vm_types.declared.call.Reply.{Reply}
 use Rattle.seg_vn.specs.vm_types.declared.call.Reply.TheVariants as reply
 use Rattle.seg_vn.specs.vm_types.Prot.{is_within}
 use Rattle.seg_vn.specs.flat_model.Access.{with_space}
-use Rattle.seg_vn.specs.flat_model.Flat.{Cell, Flat, Space, space_of, reserved}
-use Rattle.seg_vn.specs.flat_model.Mapping.{Request, cells_of, is_range, is_there, is_valid, map_result, max_of, with_mapping, without_replaced}
+use Rattle.seg_vn.specs.flat_model.Flat.{Cell, Flat, space_of, reserved}
+use Rattle.seg_vn.specs.flat_model.Mapping.{cells_of, is_there, is_valid, map_result, max_of, with_mapping, without_replaced}
 use Rattle.seg_vn.specs.flat_model.Refusals.{◌>>=◌, ◌>>◌, Effect, check, or_refused}
 use Rattle.seg_vn.specs.flat_model.Space.{lowest_gap, without_range}
 use Rattle.seg_vn.specs.flat_model.Step.{effect}

@@ -1,7 +1,7 @@
 -- What a Map comes to in flat memory, by the refusal that is due.
 use Rattle.seg_vn.proofs.flat_model.Ranges.{both_true as both}
 use Rattle.std.proofs.Common.{◌≡◌, ℕ, zero, suc, ◌+◌, ◌-◌, ◌≤◌, Bool, true, false, cond, not, List, [], ◌∷◌, length, map, Option, Some, None, refl, sym, ap, ◌∙◌, inl, inr, subst, arith}
-use Rattle.std.specs.Prelude.{option_map, is_some, nat_le, nat_lt, ◌&&◌, IsSome, Result, Ok, Err, slice_get, slice_index_or}
+use Rattle.std.specs.Prelude.{option_map, is_some, nat_le, nat_lt, IsSome, Result, Ok, Err, slice_get, slice_index_or}
 use Rattle.std.specs.Option.{option_map_or}
 use Rattle.std.specs.FinMap as finite
 use Rattle.std.specs.FinSet as set

@@ -1,5 +1,5 @@
 -- What a piece of a process is, by the fit: whether it has an own map, its pages, and the zero object that it shows.
-use Rattle.std.proofs.Common.{◌≡◌, ℕ, ◌+◌, ◌<◌, ◌≤◌, cond, List, length, Option, Some, None, ap, sym, ◌∙◌, inl, inr, arith}
+use Rattle.std.proofs.Common.{◌≡◌, ℕ, ◌+◌, ◌<◌, ◌≤◌, List, length, Option, Some, None, ap, sym, ◌∙◌, inl, inr}
 use Rattle.std.specs.Prelude.{is_some, IsSome, slice_index_or}
 use Rattle.std.proofs.lemmas.Bool.{cases_lt}
 use Rattle.std.proofs.lemmas.List.{get_or_past}

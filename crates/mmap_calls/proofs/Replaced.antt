@@ -1,12 +1,12 @@
 -- A mapping takes the place of what was mapped in its range.
 use Rattle.std.proofs.Common.{◌≡◌, ◌≢◌, ℕ, ◌+◌, ◌-◌, ◌*◌, ◌<◌, ◌≤◌, Bool, true, false, cond, eqb, List, [], ◌∷◌, ◌++◌, length, replicate, Option, Some, None, refl, sym, ap, ◌∙◌, inl, inr, subst, arith}
-use Rattle.std.specs.Prelude.{Result, option_map, is_some, IsSome, nat_lt, ◌&&◌, ◌||◌, slice_index_or, slice_set}
+use Rattle.std.specs.Prelude.{Result, option_map, is_some, IsSome, nat_lt, slice_index_or, slice_set}
 use Rattle.std.specs.FinMap as finite
 use Rattle.std.specs.FinSet as set
 use Rattle.std.specs.Ordering.{nat_cmp}
 use Rattle.std.specs.Cmp.{nat_cmp_total}
-use Rattle.std.proofs.lemmas.Bool.{ltb-true, leb-true, cases_eq}
-use Rattle.seg_vn.specs.addr_space.Space.{Part, part, piece_at, part_at, with_new_part, LiesFrom}
+use Rattle.std.proofs.lemmas.Bool.{ltb-true, cases_eq}
+use Rattle.seg_vn.specs.addr_space.Space.{Part, part, piece_at, part_at, with_new_part}
 use Rattle.seg_vn.specs.anon_map.Maps.{Map, IsMapThere, IsUnused, holders_of, places_of}
 use Rattle.seg_vn.specs.page_store.Notes.{Notes}
 use Rattle.seg_vn.specs.vnode_files.Files.{FilesSeen}
@@ -17,17 +17,14 @@ use Rattle.seg_vn.specs.vm_types.declared.call.Object.{Object}
 use Rattle.seg_vn.specs.vm_types.declared.call.Object.TheVariants as object
 use Rattle.seg_vn.specs.vm_types.declared.call.Place.TheVariants.{At}
 use Rattle.seg_vn.specs.vm_types.declared.call.Reply.{Reply}
-use Rattle.seg_vn.specs.vm_types.declared.call.Call.{Call}
 use Rattle.seg_vn.specs.vm_types.declared.call.Reply.TheVariants.{Refused, Mapped}
-use Rattle.seg_vn.specs.vm_types.declared.call.Reply.TheVariants as reply
 use Rattle.seg_vn.specs.flat_model.Access.{with_space}
 use Rattle.seg_vn.specs.flat_model.Flat.{Flat, without_unnamed}
-use Rattle.seg_vn.specs.flat_model.Mapping.{is_valid, cells_of, new_number, object_for, own_for, prot_read_write, with_object, without_pages, with_mapping}
+use Rattle.seg_vn.specs.flat_model.Mapping.{cells_of, new_number, object_for, own_for, prot_read_write, with_object, without_pages, with_mapping}
 use Rattle.seg_vn.specs.flat_model.Refusals.{or_refused}
 use Rattle.seg_vn.specs.flat_model.Space.{is_in_range, without_range, with_cells}
-use Rattle.seg_vn.specs.flat_model.Step.{effect, is_bit_set, IsDue, after_act}
+use Rattle.seg_vn.specs.flat_model.Step.{effect}
 use Rattle.seg_vn.specs.flat_model.Words.{page, pages_in}
-use Rattle.seg_vn.proofs.flat_model.Reserve.{some_pages}
 use Rattle.seg_vn.proofs.flat_model.Ranges.{in_range-is, get-insert, get-insert_here, get-insert_apart}
 use Rattle.seg_vn.specs.vm_world.CountsFit.{ObjectFits, slots_for_part}
 use Rattle.seg_vn.specs.vm_world.FlatMemory.{Memory, flat_memory, zero_maps}
@@ -35,8 +32,6 @@ use Rattle.seg_vn.specs.vm_world.MapSteps.{maps_made, maps_held}
 use Rattle.seg_vn.specs.vm_world.MemoryFits.{MemoryFits}
 use Rattle.seg_vn.specs.vm_world.Segments.{Spot, Spaces}
 use Rattle.seg_vn.specs.vm_world.SegmentSteps.{ChangesSegments, HasPlace, IsOwnNew, MayCome, MayMakeZero, with_new_cells, with_zero_object, with_part_come, with_zero_part, segment_cell}
-use Rattle.seg_vn.specs.vm_world.Plans.{refusal_in}
-use Rattle.seg_vn.specs.vm_world.Serving.{TakesFrames, ServesDone}
 use Rattle.seg_vn.specs.vm_world.Serving.{ModifiesNone}
 use Rattle.seg_vn.specs.vm_world.World.{World}
 use Rattle.seg_vn.specs.vm_world.ZeroObjects.{AreSameZeros, KnowsZeros, free_number}
@@ -51,10 +46,8 @@ use Rattle.seg_vn.proofs.vm_world.MoreNumbers.{past-none}
 use Rattle.seg_vn.proofs.vm_world.SegmentCells.{segment_cells}
 use Rattle.seg_vn.proofs.vm_world.SegmentSteps.{segment_rule}
 use Rattle.seg_vn.proofs.vm_world.Unnamed.{cells-after-pages, object-after-pages}
-use Rattle.seg_vn.proofs.seg_ops.Composed.{keeps-same}
 use Rattle.seg_vn.proofs.seg_ops.Modified.{modifies-same}
 use Rattle.seg_vn.specs.Clears.{SpaceFits, ChangesSpace, GivesBack}
-use Rattle.seg_vn.specs.Serves.{IsPlainReply}
 use Rattle.seg_vn.proofs.ClearedSpaces.{cut-map}
 use Rattle.mmap_calls.specs.declared.maps.Anons.{Anons}
 use Rattle.mmap_calls.specs.declared.refusals.MapRequest.{MapRequest}

@@ -1,5 +1,5 @@
 -- A Sync that is answered: refused, done, or made to wait.
-use Rattle.std.proofs.Common.{◌≡◌, ◌≢◌, ℕ, ◌+◌, ◌<◌, ◌≤◌, Bool, true, false, List, Option, Some, None, refl, sym, ap, ◌∙◌, inl, inr, subst, arith}
+use Rattle.std.proofs.Common.{◌≡◌, ◌≢◌, ℕ, ◌+◌, ◌<◌, ◌≤◌, Bool, true, false, List, Option, Some, None, refl, sym, ap, ◌∙◌, inr, subst, arith}
 use Rattle.std.specs.Prelude.{Result, Ok, Err, IfOk, is_ok}
 use Rattle.std.specs.FinMap as finite
 use Rattle.std.specs.FinSet as set
@@ -12,7 +12,6 @@ use Rattle.seg_vn.specs.page_store.Transfers.{is_push}
 use Rattle.seg_vn.specs.page_store.Waits.{Waits, plan_page}
 use Rattle.seg_vn.specs.page_store.declared.plan.Hold.{Hold}
 use Rattle.seg_vn.specs.page_store.declared.plan.Plan.{Plan}
-use Rattle.seg_vn.specs.page_store.declared.plan.Plan.TheVariants as plan
 use Rattle.seg_vn.specs.vm_types.declared.call.Call.{Call}
 use Rattle.seg_vn.specs.vm_types.declared.call.Call.TheVariants.{Sync}
 use Rattle.seg_vn.specs.vm_types.declared.call.Errno.{Errno}
@@ -25,18 +24,16 @@ use Rattle.seg_vn.specs.flat_model.Refusals.{◌>>◌, Effect, check, or_refused
 use Rattle.seg_vn.specs.flat_model.Space.{is_in_range}
 use Rattle.seg_vn.specs.flat_model.Step.{IsDue, after_act, effect}
 use Rattle.seg_vn.specs.flat_model.Words.{page, pages_in}
-use Rattle.seg_vn.specs.vm_world.FlatMemory.{Memory, flat_memory}
-use Rattle.seg_vn.specs.vm_world.Plans.{CanRunPlan, IsRefusal, refusal_in}
+use Rattle.seg_vn.specs.vm_world.FlatMemory.{flat_memory}
+use Rattle.seg_vn.specs.vm_world.Plans.{IsRefusal, refusal_in}
 use Rattle.seg_vn.specs.vm_world.Segments.{Spaces, Spot, spot_at}
 use Rattle.seg_vn.specs.vm_world.Serving.{ModifiesNone, ServesBusy, ServesDone, ServesNeed}
-use Rattle.seg_vn.specs.vm_world.State.{Caller}
 use Rattle.seg_vn.specs.vm_world.Wants.{IsCleanPage, WantsClean}
 use Rattle.seg_vn.specs.vm_world.Words.{KeepsPages}
 use Rattle.seg_vn.specs.vm_world.World.{World, world_table}
 use Rattle.seg_vn.specs.vm_world.declared.segment.Segment.{Segment}
 use Rattle.seg_vn.specs.vm_world.declared.wants.Wants.{Wants}
 use Rattle.seg_vn.specs.vm_world.declared.wants.Wants.TheVariants.{Transfer, Seat}
-use Rattle.seg_vn.specs.seg_ops.CleanSteps.{NeedsPush}
 use Rattle.seg_vn.proofs.seg_ops.StillSteps.{memory_of}
 use Rattle.seg_vn.specs.CleanPlaces.{SharesFilePage}
 use Rattle.seg_vn.specs.Serves.{Serves}
@@ -45,7 +42,7 @@ use Rattle.seg_vn.proofs.home_pages.Replacements.{none-replaced}
 use Rattle.seg_vn.proofs.home_pages.Takes.{takes-none}
 use Rattle.mmap_calls.specs.Calls.{ChangesMappings, IsDoneAtOnce, IsMappingAnswer, IsMappingCall, IsSyncAnswer, attempt_wanting}
 use Rattle.mmap_calls.specs.Protections.{AreMapped}
-use Rattle.mmap_calls.specs.SyncRanges.{AreClean, CleansRange, WantsFirstAt}
+use Rattle.mmap_calls.specs.SyncRanges.{AreClean, WantsFirstAt}
 use Rattle.mmap_calls.proofs.RangeProtections.{mapped-false, mapped-true}
 
 -- what is said of a range, by its two tests

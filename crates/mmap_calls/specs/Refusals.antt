@@ -13,29 +13,23 @@ use Rattle.seg_vn.specs.vm_types.declared.call.Kind.TheVariants.{Private, Shared
 use Rattle.seg_vn.specs.vm_types.declared.call.Object.{Object}
 use Rattle.seg_vn.specs.vm_types.declared.call.Place.{Place}
 use Rattle.seg_vn.specs.vm_types.declared.call.Place.TheVariants.{At, Any}
-use Rattle.seg_vn.specs.vm_types.declared.call.Reply.{Reply}
 use Rattle.seg_vn.specs.vm_types.declared.prot.Prot.{Prot}
 use Rattle.seg_vn.specs.vm_types.WellFormed.{IsNumber}
 use Rattle.seg_vn.specs.flat_model.Flat.{Flat}
 use Rattle.seg_vn.specs.flat_model.Mapping.{Request, is_valid, map_result, prot_read, prot_read_write, with_mapping}
-use Rattle.seg_vn.specs.flat_model.Step.{effect}
 use Rattle.seg_vn.specs.flat_model.Words.{page, pages_in}
 use Rattle.seg_vn.specs.vm_world.FlatMemory.{Memory, flat_memory}
-use Rattle.seg_vn.specs.vm_world.SegmentSteps.{ChangesSegments}
 use Rattle.seg_vn.specs.vm_world.Segments.{Spaces}
 use Rattle.seg_vn.specs.vm_world.Words.{memory}
 use Rattle.seg_vn.specs.vm_world.World.{World, world_seen}
-use Rattle.seg_vn.specs.vm_world.ZeroObjects.{KnowsZeros}
 use Rattle.seg_vn.specs.vm_world.declared.world.World as rust
 use Rattle.seg_vn.specs.Clears.{SpaceFits}
 use Rattle.seg_vn.specs.vm_world.declared.segment.Segment.{Segment}
-use Rattle.seg_vn.specs.Serves.{IsPlainReply}
 use Rattle.mmap_calls.specs.declared.refusals.MapRequest.{MapRequest}
 use Rattle.mmap_calls.specs.declared.refusals.NewMapping.{NewMapping}
 use Rattle.seg_vn.specs.vm_types.Prot.{is_within}
 use Rattle.mmap_calls.specs.GivenUp.{given_up}
 use Rattle.mmap_calls.specs.RangeCounts.{mapped_pages, slots_of_range}
-use Rattle.std.specs.FinMap as finite
 use Rattle.std.specs.FinSet as set
 use Rattle.seg_vn.specs.vm_types.declared.call.Errno.TheVariants as errno
 use Rattle.seg_vn.specs.vm_types.declared.call.Object.TheVariants as object

@@ -1,5 +1,5 @@
 -- Room for a piece that goes across a page, and the anon maps of a new one. Inside: no public clause cites this.
-use Rattle.std.specs.Prelude.{◌≡◌, ◌≤◌, ◌<◌, ◌+◌, ◌-◌, ◌^◌, ℕ, [], List, Option, Some, None, IsSome, slice_set, slice_index_or}
+use Rattle.std.specs.Prelude.{◌≡◌, ◌≤◌, ◌<◌, ◌+◌, ◌-◌, ◌^◌, ℕ, [], List, Option, Some, None, IsSome, slice_set}
 use Rattle.seg_vn.specs.vm_types.declared.call.Kind.{Kind}
 use Rattle.seg_vn.specs.vm_types.declared.call.Kind.TheVariants.{Shared, Private}
 use Rattle.seg_vn.specs.vm_types.declared.call.Object.{Object}

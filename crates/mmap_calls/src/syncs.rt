@@ -2,7 +2,7 @@
 ghost use Rattle.std.specs.Prelude.{◌≡◌, ◌≤◌, ◌<◌, ℕ, List, Option, IsSome};
 ghost use Rattle.std.specs.FinMap as finite;
 ghost use Rattle.seg_vn.specs.vm_types.declared.call.Call.TheVariants as call;
-ghost use Rattle.seg_vn.specs.vm_world.Words.{memory, Fits, OnlyStoreAndHat};
+ghost use Rattle.seg_vn.specs.vm_world.Words.{memory, Fits};
 ghost use Rattle.seg_vn.specs.seg_ops.Rooms.{MakesRoom};
 ghost use Rattle.seg_vn.specs.Serves.{Serves};
 ghost use Rattle.mmap_calls.specs.Calls.{IsSyncAnswer, attempt_wanting};
@@ -90,8 +90,8 @@ fn wanting(wants: Wants) -> Attempt
 
 /// What a Sync of a process comes to that began with so many entries in the history. It is done where, in the state in which it
 /// answers, each page of a file that a shared mapping of its range shows is clean: not modified, and not moving. Else one that isn't
-/// is to be pushed first, or the call waits for who moves it, or has its disk. It changes no page, takes no memory and makes no disk
-/// call.
+/// is to be pushed first, or the call waits for who moves it, or has its disk. It changes no page, takes no frame and no memory, and
+/// makes no disk call.
 ///
 /// `cursor` is the page of the process that was looked at last: each try looks at the pages of the range from there to its end and
 /// then from its first page on, at each once, and stops at the first that isn't clean. So a Sync of n pages that is tried k times
@@ -115,7 +115,7 @@ pub fn sync<D: Disk>(
         (call.Sync addr length) result }
     ensures answer { IsSyncAnswer from result }
     // What stays.
-    ensures rest { OnlyStoreAndHat world.old world.new }
+    ensures makes { MakesRoom world.old world.new }
 {
     let Some(space) = spaces.get(process) else {
         unreachable!();

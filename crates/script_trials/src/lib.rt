@@ -8,6 +8,8 @@ mod fault_tests;
 #[cfg(test)]
 mod generated_tests;
 #[cfg(test)]
+mod opening_tests;
+#[cfg(test)]
 mod plan_tests;
 #[cfg(test)]
 mod report_tests;

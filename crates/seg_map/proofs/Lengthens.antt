@@ -1,6 +1,6 @@
 -- A FILE THAT GETS LONGER: what its last page has to be, and that it is longer once its record has the farther end.
 use Rattle.std.proofs.Common.{◌≡◌, ◌≢◌, ℕ, ◌+◌, ◌-◌, ◌%◌, ◌<◌, ◌≤◌, max, Bool, true, false, cond, List, [], ◌++◌, length, Option, Some, None, refl, sym, ap, ◌∙◌, ◌⊎◌, inl, inr, subst, arith, slice_index_or}
-use Rattle.std.specs.Prelude.{IsTrue, take, drop, replicate, slice_get, nat_lt, not}
+use Rattle.std.specs.Prelude.{Contains, IsTrue, take, drop, replicate, slice_get, nat_lt, not}
 use Rattle.std.proofs.lemmas.Bool.{cases_eq, ltb-true, cases_lt}
 use Rattle.std.proofs.lemmas.List.{replicate-append-replicate, take-replicate, drop-replicate}
 use Rattle.std.proofs.lemmas.Option.{slice_get_within}
@@ -31,6 +31,7 @@ use Rattle.seg_ops.proofs.vm_world.FileSteps.{files-then}
 use Rattle.seg_ops.proofs.vm_world.FlatWhole.{some-inj}
 use Rattle.seg_ops.proofs.vm_world.PageNames.{not-slot, index-of, file-apart, file-page, below-kept}
 use Rattle.seg_ops.proofs.vm_world.StoredPages.{zeros-are}
+use Rattle.seg_ops.specs.Rooms.{SameLists}
 use Rattle.seg_ops.proofs.Fills.{blank-is}
 use Rattle.seg_ops.proofs.StillSteps.{memory_of, value-is}
 use Rattle.seg_map.specs.Ends.{valid_in, IsReadyPage, MaySetEnd, lengthened, with_file_records}
@@ -156,4 +157,11 @@ pub gap-absent : (w : World) (f n : ℕ) → IsLastReady w f n → (IsGapPage w 
 gap-absent w f n ready away name gap = elim (ready name gap) [
   | inr b ↦ b
   | inl h ↦ absurd (away (subst (IsGapPage w f n) gap.last gap) h.0 (ap (residence w.store) (sym gap.last) ∙ h.1))
+]
+
+-- a frame is on a list where it was, as the lists stay
+pub listed-was : (old new : StoreSeen) (frame : ℕ) → SameLists old new → IsListedFrame new frame → IsListedFrame old frame
+listed-was old new frame same listed = elim listed [
+  | inl free ↦ inl (subst (λ (fs : List ℕ). Contains fs frame) same.0 free)
+  | inr cached ↦ inr (subst (λ (fs : List ℕ). Contains fs frame) same.1 cached)
 ]

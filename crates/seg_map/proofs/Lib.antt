@@ -10,3 +10,6 @@ pub mod Shortens
 pub mod Readies
 pub mod Waits
 pub mod Truncates
+pub mod ReadParts
+pub mod WriteParts
+pub mod NewPages

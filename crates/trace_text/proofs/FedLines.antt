@@ -2,7 +2,7 @@
 use Rattle.vm_report.proofs.vm_script.Placed.{and_right}
 use Rattle.std.proofs.lemmas.Bool.{and_from as both}
 use Rattle.vm_report.proofs.flat_model.Histories.{io_aside as and_left}
-use Rattle.std.proofs.Common.{◌≡◌, ℕ, zero, suc, ◌+◌, ◌/◌, ◌==◌, Bool, true, false, List, [], ◌∷◌, ◌++◌, length, map, take, drop, refl, sym, ap, ap₂, ◌∙◌, append_assoc, append-nil, arith, rules, tests, cond}
+use Rattle.std.proofs.Common.{◌≡◌, ℕ, zero, suc, ◌≤◌, ◌+◌, ◌/◌, ◌==◌, Bool, true, false, List, [], ◌∷◌, ◌++◌, length, map, take, drop, refl, sym, ap, ap₂, ◌∙◌, append_assoc, append-nil, length-append, arith, rules, tests, cond}
 use Rattle.std.specs.Prelude.{All, codes, decimal, if◌then◌else◌}
 use Rattle.std.specs.List.{flat_map, list_all, onto_first}
 use Rattle.std.proofs.lemmas.Bool.Decides.{nat_tests}
@@ -54,6 +54,10 @@ line_joined (Root p) = opening_joined (Root p) tt
 line_joined (File x) = opening_joined (File x) tt
 line_joined (Piece offset bytes) = opening_joined (Piece offset bytes) tt
 line_joined (Entries n) = opening_joined (Entries n) tt
+
+-- a line has its line feed
+pub some_bytes : (l : TraceLine) → 1 ≤ length (trace_line_text l)
+some_bytes l = let size = ap (λ (x : List ℕ). length x) (line_joined l) ∙ length-append (line_of_fields (line_words l)) (10 ∷ []) in omega (arith, size)
 
 -- the lines of a text that begins with lines
 pub fed_front : (ls : List TraceLine) (rest : List ℕ) → All IsTraceLine ls → fed_lines (flat_map trace_line_text ls ++ rest) ≡ map trace_line_text ls ++ fed_lines rest

@@ -1,9 +1,9 @@
 -- What was read of a text, a line more, and the first bad line.
-use Rattle.std.proofs.Common.{◌≡◌, ℕ, zero, suc, ◌≤◌, ◌<◌, ◌+◌, Bool, true, false, List, [], ◌∷◌, ◌++◌, length, map, take, drop, replicate, get_or, Some, None, inl, inr, cond, refl, sym, subst, ap, ap₂, ◌∙◌, append_assoc, append-nil, arith}
+use Rattle.std.proofs.Common.{◌≡◌, ℕ, zero, suc, ◌≤◌, ◌<◌, ◌+◌, ◌-◌, Bool, true, false, List, [], ◌∷◌, ◌++◌, length, map, take, drop, replicate, get_or, Some, None, inl, inr, cond, refl, sym, subst, ap, ap₂, ◌∙◌, append_assoc, append-nil, arith}
 use Rattle.std.specs.List.{flat_map, onto_first}
 use Rattle.std.proofs.lemmas.Bool.{eq-eqb, ne_eqb}
-use Rattle.std.proofs.lemmas.List.{length-append, length-replicate, length-map, length_push, map-append, take_at, flat_map_more}
-use Rattle.std.proofs.lemmas.List.Elements.{All-push, All-append, All-replicate, All-nil, All-same}
+use Rattle.std.proofs.lemmas.List.{length-append, length-replicate, length-map, length_push, map-append, take_at, drop_at, flat_map_more}
+use Rattle.std.proofs.lemmas.List.Elements.{All-push, All-append, All-replicate, All-cons, All-nil, All-same}
 use Rattle.vm_report.specs.vm_types.declared.call.Call.TheVariants as call
 use Rattle.vm_report.specs.vm_types.declared.call.Reply.TheVariants as reply
 use Rattle.vm_report.specs.vm_types.declared.call.Entry.{Entry}
@@ -17,7 +17,7 @@ use Rattle.trace_text.specs.TraceLines.{TraceLine, Slots, Disk, Root, Entries, A
 use Rattle.trace_text.specs.LineOrder.{LinePlace, AtOpening, AtDisks, AtRoots, InFile, AtEntries, place_after, place_after_all, NoneThere, files_lines, trace_lines}
 use Rattle.trace_text.specs.BadLines.{IsTextOfTrace, BeginTrace, IsFirstBadLine}
 use Rattle.trace_text.specs.LinesRead.{untold, tell, IsTold, EntriesTold, opening_lines, lines_told, HasRead}
-use Rattle.trace_text.proofs.FedLines.{fed_front, trace_told}
+use Rattle.trace_text.proofs.FedLines.{fed_front, some_bytes, trace_told}
 use Rattle.trace_text.proofs.LineRuns.{after_append, trace_run}
 use Rattle.trace_text.proofs.LinesTold as may
 use Rattle.trace_text.proofs.LineTexts.{acts, refused, same_lines}
@@ -166,6 +166,11 @@ read_more text left rest t s u n l h may is cut =
       told = more.told;
     }
 
+-- an entry more is read
+pub entry_read : (text left rest : List ℕ) (t : Trace) (m n : ℕ) (e : Entry) → HasRead text left t (AtEntries (suc m)) n → IsTracedEntry e → left ≡ entry_text e ++ rest
+    → HasRead text rest (tell t (Act e)) (AtEntries m) (n + 1)
+entry_read text left rest t m n e h may cut = read_more text left rest t (AtEntries (suc m)) (AtEntries m) n (Act e) h may refl cut
+
 -- the text's lines are those that were read and those that are left
 texts_of : (text left : List ℕ) (t : Trace) (s : LinePlace) (n : ℕ) → HasRead text left t s n → fed_lines text ≡ map trace_line_text (lines_told t s) ++ fed_lines left
 texts_of text left t s n h = ap fed_lines h.front ∙ fed_front (lines_told t s) left h.each
@@ -253,3 +258,43 @@ whole_read text t n h =
     let count : length t.history + 0 ≡ length t.history = omega arith in
     let lines : lines_told t (AtEntries 0) ≡ trace_lines t = ap (λ k. opening_lines t ++ Entries k ∷ map Act t.history) count ∙ sym (opening_first t) in
     (h.told.trace, h.front ∙ (append-nil (flat_map trace_line_text (lines_told t (AtEntries 0))) ∙ (ap (λ ls. flat_map trace_line_text ls) lines ∙ sym (trace_told t))))
+
+-- a text that has a line isn't empty
+some_left : (left line : List ℕ) (more : List (List ℕ)) → fed_lines left ≡ line ∷ more → 1 ≤ length left
+some_left [] line more is = absurd cc
+some_left (b ∷ left) line more is = omega arith
+
+-- where an entry's line stands first, it is the first line
+pub entry_first : (left rest line behind : List ℕ) (e : Entry) → IsTracedEntry e → (1 ≤ length left → fed_lines left ≡ line ∷ fed_lines behind)
+    → left ≡ entry_text e ++ rest → line ≡ entry_text e
+entry_first left rest line behind e may fed is =
+    let all = All-cons IsTraceLine (Act e) [] may (All-nil IsTraceLine) in
+    let cut : fed_lines left ≡ entry_text e ∷ fed_lines rest =
+    ap fed_lines (is ∙ ap (λ x. x ++ rest) (sym (append-nil (entry_text e)))) ∙ fed_front (Act e ∷ []) rest all in
+    let both = sym (fed (some_left left (entry_text e) (fed_lines rest) cut)) ∙ cut in
+    cc
+
+-- each line has a byte, so no more lines are read than bytes
+line_bytes : (ls : List TraceLine) → length ls ≤ length (flat_map trace_line_text ls)
+line_bytes [] = omega arith
+line_bytes (l ∷ ls) =
+    let some = some_bytes l in
+    let more = line_bytes ls in
+    let both = length-append (trace_line_text l) (flat_map trace_line_text ls) in
+    omega (arith, some, more, both)
+
+pub read_room : (text left : List ℕ) (t : Trace) (s : LinePlace) (n : ℕ) → HasRead text left t s n → n + length left ≤ length text
+read_room text left t s n h =
+    let L = lines_told t s in
+    let size = ap (λ (x : List ℕ). length x) h.front ∙ length-append (flat_map trace_line_text L) left in
+    let some = line_bytes L in
+    let lines = h.lines in
+    omega (arith, size, some, lines)
+
+-- what is left is the text behind so many bytes
+pub left_is : (text left : List ℕ) (t : Trace) (s : LinePlace) (n : ℕ) → HasRead text left t s n → drop (length text - length left) text ≡ left
+left_is text left t s n h =
+    let front = flat_map trace_line_text (lines_told t s) in
+    let size = ap (λ (x : List ℕ). length x) h.front ∙ length-append front left in
+    let here : length front ≡ length text - length left = omega (arith, size) in
+    ap (λ (x : List ℕ). drop (length text - length left) x) h.front ∙ drop_at front left (length text - length left) here

@@ -3,6 +3,7 @@ pub mod Pairs
 pub mod NumbersAgain
 pub mod WordsAgain
 pub mod EntriesAgain
+pub mod Extents
 pub mod OpeningAgain
 pub mod FedLines
 pub mod LineRuns
@@ -12,3 +13,5 @@ pub mod OneTrace
 pub mod PieceLines
 pub mod LinesTelling
 pub mod FirstBad
+pub mod Padded
+pub mod OpeningRead

@@ -90,6 +90,14 @@ same_lines (l ∷ ls) (m ∷ ms) from s z run all too each same =
     let behind = same_lines ls ms b.next s z run_b (All-tail IsTraceLine l ls all) b.rest (All-tail IsTraceLine m ms each) rest in
     cc
 
+-- where a line was read that may not stand there, no other line with its text may
+pub other_line : (s : LinePlace) (l : TraceLine) (line : List ℕ) → takes_entries s ≡ false → IsTraceLine l → IsOpeningLine l → line ≡ trace_line_text l
+    → place_after s l ≡ None → NoneThere s line
+other_line s l line is may opening text stop = λ m t told step same.
+    let one : m ≡ l = one_opening_line m l told may (opens s t m is step) opening (sym same ∙ text) in
+    let both : Some t ≡ None = sym step ∙ (ap (λ (x : TraceLine). place_after s x) one ∙ stop) in
+    cc
+
 -- lines behind which no line with this text may stand are not continued by it
 pub refused : (ls ms : List TraceLine) (from s z : LinePlace) (line : List ℕ) (more : List (List ℕ)) → place_after_all from ls ≡ Some s → All IsTraceLine ls
     → NoneThere s line → place_after_all from ms ≡ Some z → All IsTraceLine ms → ¬ (map trace_line_text ms ≡ map trace_line_text ls ++ line ∷ more)

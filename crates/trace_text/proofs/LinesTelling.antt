@@ -265,7 +265,7 @@ file_told t (InFile numbers k len least) u x told h is =
 file_told t (AtEntries m) u x told h is = stopped u is
 
 -- pieces
-put_last : (before : List TracedFile) (file : TracedFile) (offset : ℕ) (bytes : List ℕ)
+pub put_last : (before : List TracedFile) (file : TracedFile) (offset : ℕ) (bytes : List ℕ)
     → put_in_last offset bytes (before ++ file ∷ []) ≡ before ++ file_with_bytes offset bytes file ∷ []
 put_last [] file offset bytes = refl
 put_last (f ∷ []) file offset bytes = refl

@@ -2,7 +2,7 @@
 use Rattle.vm_report.proofs.vm_script.Placed.{and_right}
 use Rattle.std.proofs.lemmas.Bool.{and_from as both}
 use Rattle.vm_report.proofs.flat_model.Histories.{io_aside as and_left}
-use Rattle.std.proofs.Common.{◌≡◌, ℕ, ◌≤◌, ◌==◌, Bool, true, false, ◌||◌, List, [], ◌∷◌, ◌++◌, length, map, Some, refl, sym, ap, ◌∙◌, append_assoc, append-nil, arith, rules, tests, cond, length-append}
+use Rattle.std.proofs.Common.{◌≡◌, ℕ, ◌≤◌, ◌==◌, Bool, true, false, ◌||◌, List, [], ◌∷◌, ◌++◌, length, map, Option, Some, refl, sym, ap, ◌∙◌, append_assoc, append-nil, arith, rules, tests, cond, length-append}
 use Rattle.std.specs.Prelude.{All, IsTrue, codes, decimal}
 use Rattle.std.specs.List.{list_all, slice_split, onto_first}
 use Rattle.std.proofs.lemmas.Bool.Decides.{nat_tests}
@@ -20,6 +20,7 @@ use Rattle.vm_report.specs.Trace.{extent_text, comma_before, extents_text, mode_
 use Rattle.trace_text.specs.TraceLines.{AreTwoNumbers, TraceLine, FileHead, Slots, Disk, Root, File, Piece, Entries, Act, trace_line_text, IsFileHead, IsTraceLine, IsOpeningLine}
 use Rattle.trace_text.specs.OpeningWords.{mode_word, line_words}
 use Rattle.trace_text.specs.OpeningReading.{is_comma, is_plus, extent_parts, extent_in, extents_of_parts, extents_in, mode_of_word, head_in, piece_in, pair_in, root_in, count_in, disk_line_in, slots_in, triple_in, opening_in}
+use Rattle.trace_text.proofs.Extents.{some_extents}
 use Rattle.trace_text.proofs.NumbersAgain.{are_bytes, long_number_again, number_again, offset_again, bytes_again}
 use Rattle.trace_text.proofs.EntriesAgain.{AreGraphic, split_joined, graphic_number, graphic_entry}
 
@@ -94,11 +95,6 @@ extents_parts_again : (xs : List (ℕ × ℕ)) → All AreTwoNumbers xs → exte
 unfolding extents_of_parts
 extents_parts_again [] all = refl
 extents_parts_again (x ∷ xs) all = rw (extent_again x (All-head AreTwoNumbers x xs all), extents_parts_again xs (All-tail AreTwoNumbers x xs all)) refl
-
-some_extents : (w : List ℕ) → 1 ≤ length w → extents_in w ≡ extents_of_parts (slice_split is_comma w)
-unfolding extents_in
-some_extents [] some = absurd (omega (arith, some))
-some_extents (b ∷ w) some = refl
 
 extents_again : (xs : List (ℕ × ℕ)) → All AreTwoNumbers xs → extents_in (extents_text xs) ≡ Some xs
 unfolding extents_in
@@ -211,6 +207,14 @@ opening_told l body h is same =
     let known : body ≡ line_of_fields (line_words l) = append_cancel_right body (line_of_fields (line_words l)) (10 ∷ []) (same ∙ opening_joined l is) in
     ap (λ t. opening_in (slice_split is_space t)) known
     ∙ (ap opening_in (split_words (line_words l) (some_words l is) (graphic_line l h)) ∙ opening_again l h is)
+
+-- a line that no line feed ends is none of the opening part's
+pub no_opening_unfed : (line : List ℕ) → ((body : List ℕ) → ¬ (line ≡ body ++ 10 ∷ [])) → (l : TraceLine) → IsOpeningLine l → ¬ (line ≡ trace_line_text l)
+no_opening_unfed line unfed l is same = unfed (line_of_fields (line_words l)) (same ∙ opening_joined l is)
+
+pub opening_line_told : (line body : List ℕ) (r : Option TraceLine) → line ≡ body ++ 10 ∷ [] → r ≡ opening_in (slice_split is_space body) → (l : TraceLine)
+    → IsTraceLine l → IsOpeningLine l → line ≡ trace_line_text l → r ≡ Some l
+opening_line_told line body r fed read l h is same = read ∙ opening_told l body h is (sym fed ∙ same)
 
 -- a line tells one line of the opening part alone
 pub one_opening_line : (l m : TraceLine) → IsTraceLine l → IsTraceLine m → IsOpeningLine l → IsOpeningLine m → trace_line_text l ≡ trace_line_text m → l ≡ m

@@ -1,6 +1,7 @@
 //! The arguments of calls that are not numbers.
-ghost use Rattle.std.specs.Prelude.{◌≡◌, map as over, option_map};
+ghost use Rattle.std.specs.Prelude.{◌≡◌, map as over};
 ghost use Rattle.trace_text.specs.EntryReading as reading;
+ghost use Rattle.trace_text.specs.WordsBehind.{object_behind};
 
 use crate::numbers::{number_in, word_in};
 use bitflags::Flags;
@@ -55,7 +56,7 @@ fn numbered_object<'a>(
     number: &[u8],
     words: &'a [&'a [u8]],
 ) -> Option<(Object, u32, &'a [&'a [u8]])>
-    ensures { option_map (λ r. (r.0, r.1, over (λ w. w.now) r.2.now)) result
+    ensures { object_behind result
         ≡ reading.numbered_object word.now number.now (over (λ w. w.now) words.now) }
 {
     let [offset, rest @ ..] = words else {
@@ -72,7 +73,7 @@ fn numbered_object<'a>(
 /// An object and an offset, and the words behind them.
 #[tactic(auto, unfolding(crate::specs::EntryReading::object_in))]
 pub fn object_in<'a>(words: &'a [&'a [u8]]) -> Option<(Object, u32, &'a [&'a [u8]])>
-    ensures { option_map (λ r. (r.0, r.1, over (λ w. w.now) r.2.now)) result
+    ensures { object_behind result
         ≡ reading.object_in (over (λ w. w.now) words.now) }
 {
     let [word, next, rest @ ..] = words else {

@@ -1,6 +1,7 @@
 //! Calls by their words, each with the words that follow its own.
-ghost use Rattle.std.specs.Prelude.{◌≡◌, map as over, option_map};
+ghost use Rattle.std.specs.Prelude.{◌≡◌, map as over};
 ghost use Rattle.trace_text.specs.EntryReading as reading;
+ghost use Rattle.trace_text.specs.WordsBehind.{words_behind};
 
 use crate::argument_words::{kind_in, object_in, place_in, prot_in};
 use crate::numbers::{bytes_in, number_in, word_in};
@@ -8,8 +9,7 @@ use vm_report::Call;
 
 #[tactic(auto, unfolding(crate::specs::EntryReading::load_in))]
 fn load_in<'a>(words: &'a [&'a [u8]]) -> Option<(Call, &'a [&'a [u8]])>
-    ensures { option_map (λ r. (r.0, over (λ w. w.now) r.1.now)) result
-        ≡ reading.load_in (over (λ w. w.now) words.now) }
+    ensures { words_behind result ≡ reading.load_in (over (λ w. w.now) words.now) }
 {
     let [addr, size, after @ ..] = words else {
         return None;
@@ -21,8 +21,7 @@ fn load_in<'a>(words: &'a [&'a [u8]]) -> Option<(Call, &'a [&'a [u8]])>
 
 #[tactic(auto, unfolding(crate::specs::EntryReading::store_in))]
 fn store_in<'a>(words: &'a [&'a [u8]]) -> Option<(Call, &'a [&'a [u8]])>
-    ensures { option_map (λ r. (r.0, over (λ w. w.now) r.1.now)) result
-        ≡ reading.store_in (over (λ w. w.now) words.now) }
+    ensures { words_behind result ≡ reading.store_in (over (λ w. w.now) words.now) }
 {
     let [addr, size, value, after @ ..] = words else {
         return None;
@@ -35,8 +34,7 @@ fn store_in<'a>(words: &'a [&'a [u8]]) -> Option<(Call, &'a [&'a [u8]])>
 
 #[tactic(auto, unfolding(crate::specs::EntryReading::unmap_in))]
 fn unmap_in<'a>(words: &'a [&'a [u8]]) -> Option<(Call, &'a [&'a [u8]])>
-    ensures { option_map (λ r. (r.0, over (λ w. w.now) r.1.now)) result
-        ≡ reading.unmap_in (over (λ w. w.now) words.now) }
+    ensures { words_behind result ≡ reading.unmap_in (over (λ w. w.now) words.now) }
 {
     let [addr, length, after @ ..] = words else {
         return None;
@@ -48,8 +46,7 @@ fn unmap_in<'a>(words: &'a [&'a [u8]]) -> Option<(Call, &'a [&'a [u8]])>
 
 #[tactic(auto, unfolding(crate::specs::EntryReading::sync_in))]
 fn sync_in<'a>(words: &'a [&'a [u8]]) -> Option<(Call, &'a [&'a [u8]])>
-    ensures { option_map (λ r. (r.0, over (λ w. w.now) r.1.now)) result
-        ≡ reading.sync_in (over (λ w. w.now) words.now) }
+    ensures { words_behind result ≡ reading.sync_in (over (λ w. w.now) words.now) }
 {
     let [addr, length, after @ ..] = words else {
         return None;
@@ -61,8 +58,7 @@ fn sync_in<'a>(words: &'a [&'a [u8]]) -> Option<(Call, &'a [&'a [u8]])>
 
 #[tactic(auto, unfolding(crate::specs::EntryReading::protect_in))]
 fn protect_in<'a>(words: &'a [&'a [u8]]) -> Option<(Call, &'a [&'a [u8]])>
-    ensures { option_map (λ r. (r.0, over (λ w. w.now) r.1.now)) result
-        ≡ reading.protect_in (over (λ w. w.now) words.now) }
+    ensures { words_behind result ≡ reading.protect_in (over (λ w. w.now) words.now) }
 {
     let [addr, length, prot, after @ ..] = words else {
         return None;
@@ -75,8 +71,7 @@ fn protect_in<'a>(words: &'a [&'a [u8]]) -> Option<(Call, &'a [&'a [u8]])>
 
 #[tactic(auto, unfolding(crate::specs::EntryReading::read_in))]
 fn read_in<'a>(words: &'a [&'a [u8]]) -> Option<(Call, &'a [&'a [u8]])>
-    ensures { option_map (λ r. (r.0, over (λ w. w.now) r.1.now)) result
-        ≡ reading.read_in (over (λ w. w.now) words.now) }
+    ensures { words_behind result ≡ reading.read_in (over (λ w. w.now) words.now) }
 {
     let [file, offset, length, after @ ..] = words else {
         return None;
@@ -94,8 +89,7 @@ fn read_in<'a>(words: &'a [&'a [u8]]) -> Option<(Call, &'a [&'a [u8]])>
 
 #[tactic(auto, unfolding(crate::specs::EntryReading::write_in))]
 fn write_in<'a>(words: &'a [&'a [u8]]) -> Option<(Call, &'a [&'a [u8]])>
-    ensures { option_map (λ r. (r.0, over (λ w. w.now) r.1.now)) result
-        ≡ reading.write_in (over (λ w. w.now) words.now) }
+    ensures { words_behind result ≡ reading.write_in (over (λ w. w.now) words.now) }
 {
     let [file, offset, bytes, w_rest, after @ ..] = words else {
         return None;
@@ -115,8 +109,7 @@ fn write_in<'a>(words: &'a [&'a [u8]]) -> Option<(Call, &'a [&'a [u8]])>
 
 #[tactic(auto, unfolding(crate::specs::EntryReading::truncate_in))]
 fn truncate_in<'a>(words: &'a [&'a [u8]]) -> Option<(Call, &'a [&'a [u8]])>
-    ensures { option_map (λ r. (r.0, over (λ w. w.now) r.1.now)) result
-        ≡ reading.truncate_in (over (λ w. w.now) words.now) }
+    ensures { words_behind result ≡ reading.truncate_in (over (λ w. w.now) words.now) }
 {
     let [file, length, after @ ..] = words else {
         return None;
@@ -128,8 +121,7 @@ fn truncate_in<'a>(words: &'a [&'a [u8]]) -> Option<(Call, &'a [&'a [u8]])>
 
 #[tactic(auto, unfolding(crate::specs::EntryReading::fork_in))]
 fn fork_in<'a>(words: &'a [&'a [u8]]) -> Option<(Call, &'a [&'a [u8]])>
-    ensures { option_map (λ r. (r.0, over (λ w. w.now) r.1.now)) result
-        ≡ reading.fork_in (over (λ w. w.now) words.now) }
+    ensures { words_behind result ≡ reading.fork_in (over (λ w. w.now) words.now) }
 {
     let [child, after @ ..] = words else {
         return None;
@@ -140,8 +132,7 @@ fn fork_in<'a>(words: &'a [&'a [u8]]) -> Option<(Call, &'a [&'a [u8]])>
 
 #[tactic(auto, unfolding(crate::specs::EntryReading::map_in))]
 fn map_in<'a>(words: &'a [&'a [u8]]) -> Option<(Call, &'a [&'a [u8]])>
-    ensures { option_map (λ r. (r.0, over (λ w. w.now) r.1.now)) result
-        ≡ reading.map_in (over (λ w. w.now) words.now) }
+    ensures { words_behind result ≡ reading.map_in (over (λ w. w.now) words.now) }
 {
     let [place, length, prot, kind, object @ ..] = words else {
         return None;
@@ -164,8 +155,7 @@ fn map_in<'a>(words: &'a [&'a [u8]]) -> Option<(Call, &'a [&'a [u8]])>
 
 #[tactic(auto, unfolding(crate::specs::EntryReading::later_call_in))]
 fn later_call_in<'a>(word: &[u8], words: &'a [&'a [u8]]) -> Option<(Call, &'a [&'a [u8]])>
-    ensures { option_map (λ r. (r.0, over (λ w. w.now) r.1.now)) result
-        ≡ reading.later_call_in word.now (over (λ w. w.now) words.now) }
+    ensures { words_behind result ≡ reading.later_call_in word.now (over (λ w. w.now) words.now) }
 {
     if word == b"protect".as_slice() {
         return protect_in(words);
@@ -188,8 +178,7 @@ fn later_call_in<'a>(word: &[u8], words: &'a [&'a [u8]]) -> Option<(Call, &'a [&
 /// The call of this word and the words behind it, and what follows its own.
 #[tactic(auto, unfolding(crate::specs::EntryReading::call_in))]
 pub fn call_in<'a>(word: &[u8], words: &'a [&'a [u8]]) -> Option<(Call, &'a [&'a [u8]])>
-    ensures { option_map (λ r. (r.0, over (λ w. w.now) r.1.now)) result
-        ≡ reading.call_in word.now (over (λ w. w.now) words.now) }
+    ensures { words_behind result ≡ reading.call_in word.now (over (λ w. w.now) words.now) }
 {
     if word == b"load".as_slice() {
         return load_in(words);

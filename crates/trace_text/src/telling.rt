@@ -6,15 +6,16 @@ ghost use Rattle.trace_text.specs.EntryForm.{IsLongNumber, IsLoadedWord, IsMappe
 
 use vm_report::{Call, Entry, Line, Reply};
 
-// Each `u32` is a number, and each `u64` a long one. What is behind a reference shows this only as
-// its fields are read.
-fn is_number(_number: u32) -> bool
+/// Each `u32` is a number, and each `u64` a long one. What is behind a reference shows this only as
+/// its fields are read.
+pub fn is_number(_number: u32) -> bool
     ensures { IsTrue result ↔ IsNumber _number }
 {
     true
 }
 
-fn is_long_number(_number: u64) -> bool
+/// Each `u64` is a long number.
+pub fn is_long_number(_number: u64) -> bool
     ensures { IsTrue result ↔ IsLongNumber _number }
 {
     true

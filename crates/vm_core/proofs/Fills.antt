@@ -4,7 +4,7 @@ use Rattle.fault_entry.proofs.seg_ops.Fills.{clip-zeros}
 use Rattle.fault_entry.proofs.seg_ops.Pushed.{infos-set, cleared}
 use Rattle.fault_entry.proofs.page_store.NewLemmas.{length-numbers}
 use Rattle.std.proofs.Common.{◌≡◌, ◌≢◌, ◌⊎◌, ℕ, zero, suc, ◌<◌, ◌≤◌, ◌-◌, ◌+◌, Bool, true, false, cond, List, [], ◌∷◌, ◌++◌, length, map, replicate, Option, Some, None, Result, Ok, Err, refl, sym, ap, ◌∙◌, inl, inr, subst, arith, length-set, get_or-set_same, get_or-set_other}
-use Rattle.std.specs.Prelude.{slice_index, slice_index_or, slice_set, IfErr, IsSome, unwrap_or}
+use Rattle.std.specs.Prelude.{slice_index, slice_index_or, slice_set, IfErr, IsSome, IsTrue, unwrap_or}
 use Rattle.std.specs.FinMap as finite
 use Rattle.std.proofs.lemmas.Bool.{cases_eq}
 use Rattle.std.proofs.lemmas.List.{length-map, take-replicate, replicate-append-replicate}
@@ -26,9 +26,9 @@ use Rattle.fault_entry.specs.vm_world.FramesFit.{FilesFit}
 use Rattle.fault_entry.specs.vm_world.World.{file_blocks, file_name}
 use Rattle.fault_entry.proofs.vm_world.PageNames.{keeps-page, below-kept}
 use Rattle.fault_entry.proofs.seg_ops.Places.{index-set}
-use Rattle.vm_core.specs.Finish.{IsFilePage, bytes_of_page, disk_at, IsPageBlock, KeepsOtherBlocks, KeepsDisk, KeepDisks, KeepRecords, IsLastFault}
-use Rattle.vm_core.specs.Closing.{AreDisksOf, page_on_disk, WritesBlanks, FillsPages, WritesZeros}
-use Rattle.vm_core.proofs.Records.{count-kept, disk-kept, block-kept, bytes-kept, page-kept, records-refl, records-then, files-fit-kept, keeps-disk-refl, keep-disks-then}
+use Rattle.vm_core.specs.Finish.{IsFilePage, LiesIn, bytes_of_page, disk_at, IsPageBlock, KeepsOtherBlocks, KeepsDisk, KeepDisks, KeepRecords, IsLastFault}
+use Rattle.vm_core.specs.Closing.{AreDisksOf, page_on_disk, WritesBlanks, FillsPages, ZeroedOrStays, ZeroedOrStay, FailsToFill, WritesZeros, no_page}
+use Rattle.vm_core.proofs.Records.{count-kept, disk-kept, block-kept, bytes-kept, page-kept, lies-back, records-refl, records-then, files-fit-kept, keeps-disk-refl, keep-disks-then}
 
 -- a page of a file is one that the file keeps
 pub kept-page : (F : FilesSeen) (n : PageName) → FilesFit F → IsFilePage F n → n.page < page_count (vnode_at F n.object).info.extents
@@ -183,6 +183,20 @@ stored-same F G d e n k blank block =
     ap (λ (b : ℕ). cond (is_blank (vnode_at G n.object) n.page) zeros (clip (bytes_of_page G n) (block_of e.content b))) (block-kept F G k n)
     ∙ (λ i. cond (blank i) zeros (clip (bytes-kept F G k n i) (block i)))
 
+-- A WRITE IN ONE BLOCK leaves the block of every page but the one.
+other-block-stays : (F : FilesSeen) (L M : List (ℕ × DiskSeen)) (file page at : ℕ) (disk : DiskSeen) (bytes : List ℕ) → AreDisksOf F L → IsFilePage F (file_name file page) → at < length L → (disk_at L at).0 ≡ disk_of_file F file
+    → M ≡ slice_set L at (disk_of_file F file, disk) → disk.content ≡ with_block (disk_at L at).1.content (block_of_page F file page) bytes
+    → (i : ℕ) (n : PageName) → n ≢ file_name file page → IsFilePage F n → disk_of_file F n.object ≡ (disk_at L i).0
+    → block_of (disk_at M i).1.content (block_of_page F n.object n.page) ≡ block_of (disk_at L i).1.content (block_of_page F n.object n.page)
+other-block-stays F L M file page at disk bytes are p within number new written i n ne q on =
+    subst (λ (l : List (ℕ × DiskSeen)). block_of (disk_at l i).1.content (block_of_page F n.object n.page) ≡ block_of (disk_at L i).1.content (block_of_page F n.object n.page)) (sym new)
+    (at-set L at i (disk_of_file F file, disk) within (λ (d : ℕ × DiskSeen). block_of d.1.content (block_of_page F n.object n.page) ≡ block_of (disk_at L i).1.content (block_of_page F n.object n.page))
+    (λ e.
+    let far : block_of_page F n.object n.page ≢ block_of_page F file page = λ same. ne (one-page F n (file_name file page) are.fits q p (on ∙ ap (λ (j : ℕ). (disk_at L j).0) e ∙ number) same) in
+    ap (λ (o : Option (List (List ℕ))). block_of o (block_of_page F n.object n.page)) written ∙ block-other (disk_at L at).1.content (block_of_page F file page) (block_of_page F n.object n.page) bytes far
+    ∙ ap (λ (j : ℕ). block_of (disk_at L j).1.content (block_of_page F n.object n.page)) (sym e))
+    (λ apart. refl))
+
 -- A BLANK PAGE GETS ZEROS: each place has what it had.
 module _ (F : FilesSeen) (L M : List (ℕ × DiskSeen)) (file page : ℕ) (are : AreDisksOf F L) (p : IsFilePage F (file_name file page)) (whole : (i : ℕ) → HasBlocks (disk_at L i).1.content (disk_at L i).1.size)
     (blank : is_blank (vnode_at F file) page ≡ true) (at : ℕ) (within : at < length L) (number : (disk_at L at).0 ≡ disk_of_file F file) (disk : DiskSeen)
@@ -190,39 +204,46 @@ module _ (F : FilesSeen) (L M : List (ℕ × DiskSeen)) (file page : ℕ) (are :
   abbrev G : FilesSeen
   G = with_page_filled F file page
 
+  zeroed : (i : ℕ) → i ≡ at → IsSome (disk_at L i).1.content → block_of (disk_at M i).1.content (block_of_page F file page) ≡ zeros
+  zeroed i e told =
+      let some : IsSome (disk_at L at).1.content = subst (λ (j : ℕ). IsSome (disk_at L j).1.content) e told in
+      let disk_is : disk_at M i ≡ (disk_of_file F file, disk) = ap (disk_at M) e ∙ ap (λ (l : List (ℕ × DiskSeen)). disk_at l at) new ∙ get_or-set_same L at (disk_of_file F file, disk) _ within in
+      ap (λ (d : ℕ × DiskSeen). block_of d.1.content (block_of_page F file page)) disk_is
+      ∙ ap (λ (o : Option (List (List ℕ))). block_of o (block_of_page F file page)) written
+      ∙ block-now (disk_at L at).1.content (block_of_page F file page) (disk_at L at).1.size zeros some (whole at) (block-within F L at (file_name file page) are within p (sym number))
+
   here : (i : ℕ) → i ≡ at → IsSome (disk_at L i).1.content → page_on_disk G (disk_at M i).1 (file_name file page) ≡ page_on_disk F (disk_at L i).1 (file_name file page)
   here i e told =
       let k = records-filled F file page in
-      let some : IsSome (disk_at L at).1.content = subst (λ (j : ℕ). IsSome (disk_at L j).1.content) e told in
-      let disk_is : disk_at M i ≡ (disk_of_file F file, disk) = ap (disk_at M) e ∙ ap (λ (l : List (ℕ × DiskSeen)). disk_at l at) new ∙ get_or-set_same L at (disk_of_file F file, disk) _ within in
       let low : bytes_of_page F (file_name file page) ≤ 4096 = omega arith in
-      ap (λ (d : ℕ × DiskSeen). page_on_disk G d.1 (file_name file page)) disk_is
-      ∙ ap (λ (b : Bool). cond b zeros (clip (bytes_of_page G (file_name file page)) (block_of disk.content (block_of_page G file page)))) (blank-now F file page p.file)
-      ∙ ap (λ (b : ℕ). clip (bytes_of_page G (file_name file page)) (block_of disk.content b)) (block-kept F G k (file_name file page))
-      ∙ ap (λ (o : Option (List (List ℕ))). clip (bytes_of_page G (file_name file page)) (block_of o (block_of_page F file page))) written
-      ∙ ap (clip (bytes_of_page G (file_name file page))) (block-now (disk_at L at).1.content (block_of_page F file page) (disk_at L at).1.size zeros some (whole at) (block-within F L at (file_name file page) are within p (sym number)))
+      ap (λ (b : Bool). cond b zeros (clip (bytes_of_page G (file_name file page)) (block_of (disk_at M i).1.content (block_of_page G file page)))) (blank-now F file page p.file)
+      ∙ ap (λ (b : ℕ). clip (bytes_of_page G (file_name file page)) (block_of (disk_at M i).1.content b)) (block-kept F G k (file_name file page))
+      ∙ ap (clip (bytes_of_page G (file_name file page))) (zeroed i e told)
       ∙ ap (λ (v : ℕ). clip v zeros) (bytes-kept F G k (file_name file page))
       ∙ clip-zeros (bytes_of_page F (file_name file page)) low
       ∙ sym (ap (λ (b : Bool). cond b zeros (clip (bytes_of_page F (file_name file page)) (block_of (disk_at L i).1.content (block_of_page F file page)))) blank)
 
+  beside : (i : ℕ) (n : PageName) → n ≢ file_name file page → IsFilePage F n → disk_of_file F n.object ≡ (disk_at L i).0
+      → block_of (disk_at M i).1.content (block_of_page F n.object n.page) ≡ block_of (disk_at L i).1.content (block_of_page F n.object n.page)
+  beside = other-block-stays F L M file page at disk zeros are p within number new written
+
   there : (i : ℕ) (n : PageName) → n ≢ file_name file page → IsFilePage F n → disk_of_file F n.object ≡ (disk_at L i).0 → page_on_disk G (disk_at M i).1 n ≡ page_on_disk F (disk_at L i).1 n
-  there i n ne q on =
-      let block : block_of (disk_at M i).1.content (block_of_page F n.object n.page) ≡ block_of (disk_at L i).1.content (block_of_page F n.object n.page) =
-      subst (λ (l : List (ℕ × DiskSeen)). block_of (disk_at l i).1.content (block_of_page F n.object n.page) ≡ block_of (disk_at L i).1.content (block_of_page F n.object n.page)) (sym new)
-      (at-set L at i (disk_of_file F file, disk) within (λ (d : ℕ × DiskSeen). block_of d.1.content (block_of_page F n.object n.page) ≡ block_of (disk_at L i).1.content (block_of_page F n.object n.page))
-      (λ e.
-      let far : block_of_page F n.object n.page ≢ block_of_page F file page = λ same. ne (one-page F n (file_name file page) are.fits q p (on ∙ ap (λ (j : ℕ). (disk_at L j).0) e ∙ number) same) in
-      ap (λ (o : Option (List (List ℕ))). block_of o (block_of_page F n.object n.page)) written ∙ block-other (disk_at L at).1.content (block_of_page F file page) (block_of_page F n.object n.page) zeros far
-      ∙ ap (λ (j : ℕ). block_of (disk_at L j).1.content (block_of_page F n.object n.page)) (sym e))
-      (λ apart. refl)) in
-      stored-same F G (disk_at L i).1 (disk_at M i).1 n (records-filled F file page) (blank-other F file page n ne) block
+  there i n ne q on = stored-same F G (disk_at L i).1 (disk_at M i).1 n (records-filled F file page) (blank-other F file page n ne) (beside i n ne q on)
+
+  its-place : (i : ℕ) (n : PageName) → n ≡ file_name file page → i < length L → disk_of_file F n.object ≡ (disk_at L i).0 → i ≡ at
+  its-place i n same lt on = one-disk F L i at are lt within (sym on ∙ ap (λ (m : PageName). disk_of_file F m.object) same ∙ sym number)
+
+  pub page-zeroed : ZeroedOrStay F L M no_page
+  page-zeroed i n lt q on told = elim (is-or-not n (file_name file page)) [
+    | inl same ↦ inr (inl (subst (λ (m : PageName). IsTrue (is_blank (vnode_at F m.object) m.page) × (block_of (disk_at M i).1.content (block_of_page F m.object m.page) ≡ zeros)) (sym same)
+        (blank, zeroed i (its-place i n same lt on) told)))
+    | inr ne ↦ inr (inr (beside i n ne q on))
+  ]
 
   pub page-filled : FillsPages F L G M (λ (n : PageName). n ≡ file_name file page)
   page-filled = record {
     stored = λ i n lt q on told. elim (is-or-not n (file_name file page)) [
-      | inl same ↦
-          let mine : (disk_at L i).0 ≡ (disk_at L at).0 = sym on ∙ ap (λ (m : PageName). disk_of_file F m.object) same ∙ sym number in
-          subst (λ (m : PageName). page_on_disk G (disk_at M i).1 m ≡ page_on_disk F (disk_at L i).1 m) (sym same) (here i (one-disk F L i at are lt within mine) told)
+      | inl same ↦ subst (λ (m : PageName). page_on_disk G (disk_at M i).1 m ≡ page_on_disk F (disk_at L i).1 m) (sym same) (here i (its-place i n same lt on) told)
       | inr ne ↦ there i n ne q on
     ];
     filled = λ n q or. elim (is-or-not n (file_name file page)) [
@@ -243,6 +264,20 @@ pub zeros-filled : {E : Type 0} (F : FilesSeen) (L M : List (ℕ × DiskSeen)) (
 zeros-filled F L M file page result are p w =
     let keeps = writes-keep F L M (disk_of_file F file) (block_of_page F file page) result w (record { name = file_name file page; page = p; on_disk = refl; in_block = refl }) in
     record { records = records-filled F file page; disks = keeps; are = are-kept F (with_page_filled F file page) L M (records-filled F file page) (sound-filled F file page p.file are.fits.each) keeps are }
+
+-- a write of zeros that failed: its fault, and the block that it spoiled
+pub zeros-failed : {E : Type 0} (F : FilesSeen) (L M : List (ℕ × DiskSeen)) (file page : ℕ) (result : Result (Unit {0}) E) (fault : DiskFault) → AreDisksOf F L → IsFilePage F (file_name file page)
+    → WritesZeros L M (disk_of_file F file) (block_of_page F file page) result → fault.disk ≡ disk_of_file F file → IsLastFault L M fault → FailsToFill F L M fault
+zeros-failed F L M file page result fault are p w on last =
+    let some = some-bytes (disk_at L w.at).1 w.disk (block_of_page F file page) zeros result w.writes in
+    record {
+      cause = last;
+      block = block_of_page F file page;
+      others = λ i n lt q at told. elim (is-or-not n (file_name file page)) [
+        | inl same ↦ inl (ap (λ (m : PageName). disk_of_file F m.object) same ∙ sym on, ap (λ (m : PageName). block_of_page F m.object m.page) same)
+        | inr ne ↦ inr (inr (other-block-stays F L M file page w.at w.disk some.0 are p w.within w.on_disk w.new some.1 i n ne q at))
+      ];
+    }
 
 -- ONE AFTER ANOTHER
 pub writes-then : (F G H : FilesSeen) (L M N : List (ℕ × DiskSeen)) → WritesBlanks F L G M → WritesBlanks G M H N → WritesBlanks F L H N
@@ -268,6 +303,41 @@ fills-then F G H L M N P Q R w p q split = record {
         | inl clear ↦ q.filled n on (inl (p.filled n page (inl clear)))
         | inr is ↦ elim (split n page is) [ inl first ↦ q.filled n on (inl (p.filled n page (inr first))) | inr second ↦ q.filled n on (inr second) ]
       ];
+}
+
+-- what came to a page's block in two steps: a page that is blank was blank before
+blank-before : (b c : Bool) → (b ≡ false → c ≡ false) → c ≡ true → b ≡ true
+blank-before true c keeps is = refl
+blank-before false c keeps is = absurd (let z : false ≡ true = sym (keeps refl) ∙ is in cc)
+
+zeroed-both : (F G : FilesSeen) (a b c : DiskSeen) (n : PageName) → KeepRecords F G → (is_blank (vnode_at F n.object) n.page ≡ false → is_blank (vnode_at G n.object) n.page ≡ false)
+    → ZeroedOrStays F a b n → ZeroedOrStays G b c n → ZeroedOrStays F a c n
+zeroed-both F G a b c n k clear first second = elim second [
+  | inl blanked ↦ inl (blank-before (is_blank (vnode_at F n.object) n.page) (is_blank (vnode_at G n.object) n.page) clear blanked.0, subst (λ (m : ℕ). block_of c.content m ≡ zeros) (block-kept F G k n) blanked.1)
+  | inr stays ↦
+      let here : block_of c.content (block_of_page F n.object n.page) ≡ block_of b.content (block_of_page F n.object n.page) = subst (λ (m : ℕ). block_of c.content m ≡ block_of b.content m) (block-kept F G k n) stays in
+      elim first [ inl blanked ↦ inl (blanked.0, here ∙ blanked.1) | inr still ↦ inr (here ∙ still) ]
+]
+
+pub zeroed-then : (F G : FilesSeen) (L M N : List (ℕ × DiskSeen)) (R P Q : PageName → Type 0) → WritesBlanks F L G M → FillsPages F L G M R → ZeroedOrStay F L M no_page → ZeroedOrStay G M N P
+    → ((n : PageName) → P n → Q n) → ZeroedOrStay F L N Q
+zeroed-then F G L M N R P Q w fills first second more i n lt page on told =
+    let long = w.disks.count in
+    let each = w.disks.each i lt in
+    elim (second i n (omega (arith, lt, long)) (page-kept F G w.records n page) (disk-kept F G w.records n.object ∙ on ∙ sym each.number)
+    (told-kept F (disk_at L i).0 (disk_at L i).1.content (disk_at M i).1.content each.blocks told)) [
+      | inl spoiled ↦ inl (more n spoiled)
+      | inr now ↦ elim (first i n lt page on told) [
+        | inl none ↦ absurd none
+        | inr was ↦ inr (zeroed-both F G (disk_at L i).1 (disk_at M i).1 (disk_at N i).1 n w.records (λ clear. fills.filled n page (inl clear)) was now)
+      ]
+    ]
+
+pub fails-then : (F G : FilesSeen) (L M N : List (ℕ × DiskSeen)) (R : PageName → Type 0) (fault : DiskFault) → WritesBlanks F L G M → FillsPages F L G M R → ZeroedOrStay F L M no_page → FailsToFill G M N fault → FailsToFill F L N fault
+fails-then F G L M N R fault w fills first f = record {
+  cause = fault-then F L M N fault w.disks f.cause;
+  block = f.block;
+  others = zeroed-then F G L M N R (LiesIn G fault.disk f.block) (LiesIn F fault.disk f.block) w fills first f.others (λ n. lies-back F G fault.disk f.block n w.records);
 }
 
 -- disks that tell are whole

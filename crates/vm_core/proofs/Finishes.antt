@@ -1,7 +1,7 @@
 -- What is left of a world: the disks that come out hold the files.
 use Rattle.fault_entry.proofs.seg_ops.FillSteps.{some-of as some-blocks}
-use Rattle.std.proofs.Common.{◌≡◌, ℕ, zero, suc, ◌<◌, ◌≤◌, Bool, true, false, cond, List, [], ◌∷◌, length, Option, Some, None, Result, Ok, Err, refl, sym, ap, ◌∙◌, inr, subst, arith}
-use Rattle.std.specs.Prelude.{slice_index, slice_index_or, IsSome, IfSome, IfNone, IfErr, OnOk, MatchResult}
+use Rattle.std.proofs.Common.{◌≡◌, ℕ, zero, suc, ◌<◌, ◌≤◌, Bool, true, false, cond, List, [], ◌∷◌, length, Option, Some, None, Result, Ok, Err, refl, sym, ap, ◌∙◌, inl, inr, subst, arith}
+use Rattle.std.specs.Prelude.{slice_index, slice_index_or, IsSome, IsTrue, IfSome, IfNone, IfErr, OnOk, MatchResult}
 use Rattle.std.specs.Result.{IsOk}
 use Rattle.std.specs.FinMap as finite
 use Rattle.std.proofs.lemmas.List.{length-map}
@@ -15,8 +15,9 @@ use Rattle.fault_entry.specs.page_store.Bytes.{clip}
 use Rattle.fault_entry.specs.page_store.Notes.{Note, no_notes}
 use Rattle.fault_entry.specs.page_store.Waits.{Waits, holder_in}
 use Rattle.fault_entry.proofs.page_store.QueryLemmas.{home-is}
-use Rattle.fault_entry.specs.vnode_files.Files.{FilesSeen}
+use Rattle.fault_entry.specs.vnode_files.Files.{FilesSeen, vnode_at}
 use Rattle.fault_entry.specs.vnode_files.Layout.{disk_of_file, block_of_page}
+use Rattle.fault_entry.specs.vnode_files.Vnode.{is_blank}
 use Rattle.fault_entry.specs.vm_world.MemoryFits.{MemoryFits}
 use Rattle.fault_entry.specs.vm_world.NotesFit.{NotesFit}
 use Rattle.fault_entry.specs.vm_world.Pages.{page_value}
@@ -27,9 +28,9 @@ use Rattle.fault_entry.proofs.vm_world.Clips.{clip-twice}
 use Rattle.fault_entry.proofs.vm_world.FrameRule.{memory_of}
 use Rattle.fault_entry.proofs.seg_ops.Disks.{lives-on, dirty-exists}
 use Rattle.fault_entry.proofs.seg_ops.Evictions.{unlocked}
-use Rattle.vm_core.specs.Finish.{IsFilePage, bytes_of_page, disk_at, disks_of, HoldsPage, HoldAllFiles, KeepsOtherBlocks, KeepsDisk, KeepDisks, KeepRecords, IsLastFault, HaveNoBlankPage}
-use Rattle.vm_core.specs.Closing.{KeepsBay, PushesPages, StoresPages, IsFaultOfBays, AreDisksOf, page_on_disk, WritesBlanks, FillsPages}
-use Rattle.vm_core.proofs.Records.{records-back, records-then, page-kept, disk-kept, block-kept, bytes-kept, keeps-disk-refl, keep-disks-then}
+use Rattle.vm_core.specs.Finish.{IsFilePage, bytes_of_page, disk_at, disks_of, HoldsPage, HoldsOrKeeps, HoldAllFiles, LeaveAllPages, KeepsOtherBlocks, KeepsDisk, KeepDisks, KeepRecords, IsLastFault, HaveNoBlankPage}
+use Rattle.vm_core.specs.Closing.{KeepsBay, PushesPages, StoresPages, IsFaultOfBays, FailsToPush, GoOrStay, GoesOrStays, block_on, no_page, AreDisksOf, page_on_disk, WritesBlanks, FillsPages, ZeroedOrStays, FailsToFill}
+use Rattle.vm_core.proofs.Records.{records-back, records-then, page-kept, disk-kept, block-kept, bytes-kept, lies-back, keeps-disk-refl, keep-disks-then}
 use Rattle.vm_core.proofs.Fills.{block-within, fault-then}
 use Rattle.vm_core.proofs.Pushes.{records-of}
 
@@ -133,6 +134,99 @@ told-back F disk None None k some = some
 told-back F disk None (Some b) k some = absurd k
 told-back F disk (Some a) b k some = refl
 
+-- the disk of a page of a file, in their order, and the page's block there
+disk-of-page : (w : World) (i : ℕ) (name : PageName) → i < length (disks_of w) → disk_of_file w.files name.object ≡ (disk_at (disks_of w) i).0 → (disk_at (disks_of w) i).1 ≡ disk_in (bay_at w.store.bays (disk_of_file w.files name.object))
+disk-of-page w i name lt on =
+    let long = length-in-order w.store.bays w.store.order in
+    let at = disk-in-order w.store.bays w.store.order i (omega (arith, lt, long)) in
+    ap (λ (d : ℕ × DiskSeen). d.1) at ∙ ap (λ (j : ℕ). disk_in (bay_at w.store.bays j)) (sym (ap (λ (d : ℕ × DiskSeen). d.0) at) ∙ sym on)
+
+block-in-order : (w : World) (i : ℕ) (name : PageName) → i < length (disks_of w) → disk_of_file w.files name.object ≡ (disk_at (disks_of w) i).0 → block_on w name ≡ block_of (disk_at (disks_of w) i).1.content (block_of_page w.files name.object name.page)
+block-in-order w i name lt on = ap (λ (d : DiskSeen). block_of d.content (block_of_page w.files name.object name.page)) (sym (disk-of-page w i name lt on))
+
+-- WHAT THE DISKS HAVE AFTER A FAULT: each block of a page its page, or what it had.
+both-told : (a b : Option (List (List ℕ))) (P : List (List ℕ) → List (List ℕ) → Type 0) → ((x y : List (List ℕ)) → a ≡ Some x → b ≡ Some y → P x y) → IfSome a (λ x. IfSome b (λ y. P x y))
+both-told None b P h = tt
+both-told (Some x) None P h = tt
+both-told (Some x) (Some y) P h = h x y refl refl
+
+holds-or-keeps : (u v : World) (name : PageName) (old new : List (List ℕ)) → block_on u name ≡ slice_index_or old (block_of_page u.files name.object name.page) [] → block_on v name ≡ slice_index_or new (block_of_page u.files name.object name.page) []
+    → GoesOrStays u v name → HoldsOrKeeps u old new name
+holds-or-keeps u v name old new was is way = elim way [
+  | inl went ↦ inl (ap (clip (bytes_of_page u.files name)) (sym is) ∙ went)
+  | inr stayed ↦ inr (sym is ∙ stayed ∙ was)
+]
+
+module _ (u v : World) (spaces : Spaces) (p : PushesPages u v spaces) (fault : DiskFault) (tell : AllTell u no_notes) where
+  abbrev K : KeepRecords u.files v.files
+  K = records-of u v p.tables
+
+  -- a disk's place after the pushes
+  stays-within : (i : ℕ) → i < length (disks_of u) → i < length (disks_of v)
+  stays-within i lt = let long = (push-disks u v spaces p).count in omega (arith, lt, long)
+
+  stays-on : (i : ℕ) (name : PageName) → i < length (disks_of u) → disk_of_file u.files name.object ≡ (disk_at (disks_of u) i).0 → disk_of_file v.files name.object ≡ (disk_at (disks_of v) i).0
+  stays-on i name lt on = disk-kept u.files v.files K name.object ∙ on ∙ sym ((push-disks u v spaces p).each i lt).number
+
+  module _ (i : ℕ) (lt : i < length (disks_of u)) (name : PageName) (page : IsFilePage u.files name) (on : disk_of_file u.files name.object ≡ (disk_at (disks_of u) i).0) where
+    abbrev at-block : ℕ
+    at-block = block_of_page u.files name.object name.page
+
+    abbrev in-file : ℕ
+    in-file = bytes_of_page u.files name
+
+    was-told : (old : List (List ℕ)) → (disk_at (disks_of u) i).1.content ≡ Some old → block_on u name ≡ slice_index_or old at-block []
+    was-told old is = block-in-order u i name lt on ∙ ap (λ (o : Option (List (List ℕ))). block_of o at-block) is
+
+    -- the block after the pushes, by its number among the files that were there
+    between : block_on v name ≡ block_of (disk_at (disks_of v) i).1.content at-block
+    between = block-in-order v i name (stays-within i lt) (stays-on i name lt on) ∙ ap (block_of (disk_at (disks_of v) i).1.content) (block-kept u.files v.files K name)
+
+    -- zeros that came to a blank page, which showed zeros
+    zeros-held : (e : DiskSeen) (new : List (List ℕ)) → StoresPages u v (λ (m : PageName). Unit {0}) → e.content ≡ Some new → IsTrue (is_blank (vnode_at v.files name.object) name.page)
+        → block_of e.content (block_of_page v.files name.object name.page) ≡ zeros → HoldsPage u.files new name (page_value u no_notes name)
+    zeros-held e new stores is blank zeroed =
+        let D : DiskSeen = disk_in (bay_at v.store.bays (disk_of_file v.files name.object)) in
+        ap (clip in-file) (sym (ap (λ (o : Option (List (List ℕ))). block_of o at-block) is) ∙ subst (λ (m : ℕ). block_of e.content m ≡ zeros) (block-kept u.files v.files K name) zeroed)
+        ∙ ap (clip in-file) (sym (ap (λ (x : Bool). cond x zeros (clip (bytes_of_page v.files name) (block_of D.content (block_of_page v.files name.object name.page)))) blank))
+        ∙ subst (λ (m : ℕ). clip m (page_on_disk v.files D name) ≡ clip m (page_value v no_notes name)) (bytes-kept u.files v.files K name) (stores tell name page (inr tt))
+        ∙ p.values tell name page
+
+    zeroed-held : (old new : List (List ℕ)) (e : DiskSeen) → GoOrStay u v no_page → StoresPages u v (λ (m : PageName). Unit {0}) → (disk_at (disks_of u) i).1.content ≡ Some old → e.content ≡ Some new
+        → ZeroedOrStays v.files (disk_at (disks_of v) i).1 e name → HoldsOrKeeps u old new name
+    zeroed-held old new e goes stores was is way = elim way [
+      | inl blanked ↦ inl (zeros-held e new stores is blanked.0 blanked.1)
+      | inr stays ↦
+          let same : block_of e.content at-block ≡ block_of (disk_at (disks_of v) i).1.content at-block = subst (λ (m : ℕ). block_of e.content m ≡ block_of (disk_at (disks_of v) i).1.content m) (block-kept u.files v.files K name) stays in
+          elim (goes tell name page) [
+            | inl none ↦ absurd none
+            | inr went ↦ holds-or-keeps u v name old new (was-told old was) (between ∙ sym same ∙ ap (λ (o : Option (List (List ℕ))). block_of o at-block) is) went
+          ]
+    ]
+
+  -- where a push failed, and no disk was written any more
+  left-by-push : FailsToPush u v fault → LeaveAllPages u (disks_of u) (disks_of v) fault.disk
+  left-by-push f = (
+    f.block,
+    λ i lt. both-told (disk_at (disks_of u) i).1.content (disk_at (disks_of v) i).1.content _ (λ old new was is name page on. elim (f.others tell name page) [
+      | inl lies ↦ inl lies
+      | inr way ↦ inr (holds-or-keeps u v name old new (was-told i lt name page on old was) (between i lt name page on ∙ ap (λ (o : Option (List (List ℕ))). block_of o (block_of_page u.files name.object name.page)) is) way)
+    ]),
+  )
+
+  -- where zeros failed, behind all pushes
+  left-by-fill : (M : List (ℕ × DiskSeen)) → GoOrStay u v no_page → StoresPages u v (λ (m : PageName). Unit {0}) → KeepDisks v.files (disks_of v) M → FailsToFill v.files (disks_of v) M fault → LeaveAllPages u (disks_of u) M fault.disk
+  left-by-fill M goes stores keeps f = (
+    f.block,
+    λ i lt. both-told (disk_at (disks_of u) i).1.content (disk_at M i).1.content _ (λ old new was is name page on.
+        let within = stays-within i lt in
+        let told = told-back v.files (disk_at (disks_of v) i).0 (disk_at (disks_of v) i).1.content (disk_at M i).1.content (keeps.each i within).blocks (subst IsSome (sym is) refl) in
+        elim (f.others i name within (page-kept u.files v.files K name page) (stays-on i name lt on) told) [
+          | inl lies ↦ inl (lies-back u.files v.files fault.disk f.block name K lies)
+          | inr way ↦ inr (zeroed-held i lt name page on old new (disk_at M i).1 goes stores was is way)
+        ]),
+  )
+
 -- ALL FILES ARE HELD.
 module _ (u v : World) (spaces : Spaces) (G : FilesSeen) (M : List (ℕ × DiskSeen)) (fits : MemoryFits (memory_of v spaces)) (p : PushesPages u v spaces) (stores : StoresPages u v (λ (n : PageName). Unit {0}))
     (w : WritesBlanks v.files (disks_of v) G M) (fills : FillsPages v.files (disks_of v) G M (λ (n : PageName). Unit {0})) (whole : (i : ℕ) → HasBlocks (disk_at M i).1.content (disk_at M i).1.size) where
@@ -176,17 +270,11 @@ module _ (u v : World) (spaces : Spaces) (G : FilesSeen) (M : List (ℕ × DiskS
         ∙ ap (λ (m : ℕ). clip n (block_of (disk_at M i).1.content m)) (block-kept u.files G ks name)
         ∙ ap (λ (o : Option (List (List ℕ))). clip n (block_of o b)) is
 
-    its-disk : (disk_at (disks_of v) i).1 ≡ disk_in (bay_at v.store.bays (disk_of_file v.files name.object))
-    its-disk =
-        let long = length-in-order v.store.bays v.store.order in
-        let at = disk-in-order v.store.bays v.store.order i (omega (arith, within, long)) in
-        ap (λ (d : ℕ × DiskSeen). d.1) at ∙ ap (λ (j : ℕ). disk_in (bay_at v.store.bays j)) (sym (ap (λ (d : ℕ × DiskSeen). d.0) at) ∙ sym on1)
-
     pub held-page : HoldsPage u.files blocks name (page_value u no_notes name)
     held-page =
         let low : n ≤ 4096 = omega arith in
         sym (clip-twice n (slice_index_or blocks b []) low full)
-        ∙ ap (clip n) (sym placed ∙ fills.stored i name within page1 on1 told ∙ ap (λ (d : DiskSeen). page_on_disk v.files d name) its-disk)
+        ∙ ap (clip n) (sym placed ∙ fills.stored i name within page1 on1 told ∙ ap (λ (d : DiskSeen). page_on_disk v.files d name) (disk-of-page v i name within on1))
         ∙ subst (λ (m : ℕ). clip m (page_on_disk v.files (disk_in (bay_at v.store.bays (disk_of_file v.files name.object))) name) ≡ clip m (page_value v no_notes name)) (bytes-kept u.files v.files k name) (stores tell name page (inr tt))
         ∙ p.values tell name page
 
@@ -215,32 +303,42 @@ ok-then (Err e) P h ok = absurd (let z : false ≡ true = ok in cc)
 
 -- the first fault: of a push, and then no disk was written any more, or of a page of zeros
 pub first-fault : {D : Type 0} (u v : World) (spaces : Spaces) (pushed : Result (Unit {0}) DiskFault) (seen : List (ℕ × D) → List (ℕ × DiskSeen)) (xs ys : List (ℕ × D)) (fault : DiskFault) → MemoryFits (memory_of u spaces) → PushesPages u v spaces
-    → seen xs ≡ disks_of v → IfErr pushed (IsFaultOfBays u.store.bays v.store.bays) → MatchResult pushed (λ _. IsLastFault (seen xs) (seen ys) fault) (λ first. (fault ≡ first) × (ys ≡ xs)) → IsLastFault (disks_of u) (seen ys) fault
+    → seen xs ≡ disks_of v → IfErr pushed (FailsToPush u v) → MatchResult pushed (λ _. FailsToFill v.files (seen xs) (seen ys) fault) (λ first. (fault ≡ first) × (ys ≡ xs)) → IsLastFault (disks_of u) (seen ys) fault
 first-fault u v spaces (Ok x) seen xs ys fault fits p same push f =
-    fault-then u.files (disks_of u) (disks_of v) (seen ys) fault (push-disks u v spaces p) (subst (λ (l : List (ℕ × DiskSeen)). IsLastFault l (seen ys) fault) same f)
+    fault-then u.files (disks_of u) (disks_of v) (seen ys) fault (push-disks u v spaces p) (subst (λ (l : List (ℕ × DiskSeen)). IsLastFault l (seen ys) fault) same f.cause)
 first-fault u v spaces (Err first) seen xs ys fault fits p same push f =
     subst (λ (l : List (ℕ × DiskSeen)). IsLastFault (disks_of u) l fault) (sym (ap seen f.1 ∙ same))
-    (push-last u v spaces fault fits p (subst (IsFaultOfBays u.store.bays v.store.bays) (sym f.0) push))
+    (push-last u v spaces fault fits p (subst (IsFaultOfBays u.store.bays v.store.bays) (sym f.0) push.cause))
+
+pub first-left : {D : Type 0} (u v : World) (spaces : Spaces) (pushed : Result (Unit {0}) DiskFault) (seen : List (ℕ × D) → List (ℕ × DiskSeen)) (xs ys : List (ℕ × D)) (fault : DiskFault) → PushesPages u v spaces
+    → seen xs ≡ disks_of v → OnOk pushed (StoresPages u v (λ (n : PageName). Unit {0})) → OnOk pushed (GoOrStay u v no_page) → IfErr pushed (FailsToPush u v) → KeepDisks v.files (disks_of v) (seen ys)
+    → MatchResult pushed (λ _. FailsToFill v.files (seen xs) (seen ys) fault) (λ first. (fault ≡ first) × (ys ≡ xs)) → AllTell u no_notes → LeaveAllPages u (disks_of u) (seen ys) fault.disk
+first-left u v spaces (Ok x) seen xs ys fault p same stores goes push keeps f tell =
+    left-by-fill u v spaces p fault tell (seen ys) goes stores keeps (subst (λ (l : List (ℕ × DiskSeen)). FailsToFill v.files l (seen ys) fault) same f)
+first-left u v spaces (Err first) seen xs ys fault p same stores goes push keeps f tell =
+    subst (λ (l : List (ℕ × DiskSeen)). LeaveAllPages u (disks_of u) l fault.disk) (sym (ap seen f.1 ∙ same)) (left-by-push u v spaces p fault tell (subst (FailsToPush u v) (sym f.0) push))
 
 -- ALL THAT IS SAID of what is left.
 pub record IsFinished (u : World) (G : FilesSeen) (L : List (ℕ × DiskSeen)) (fault : Option DiskFault) : Type 0 where
   pub closed : IfNone fault (AllTell u no_notes → HoldAllFiles u L)
   pub filled : IfNone fault (HaveNoBlankPage G)
   pub last : IfSome fault (IsLastFault (disks_of u) L)
+  pub left : IfSome fault (λ f. AllTell u no_notes → LeaveAllPages u (disks_of u) L f.disk)
   pub disks : KeepDisks u.files (disks_of u) L
   pub files : KeepRecords u.files G
 
 pub finishes : {D : Type 0} (seen : List (ℕ × D) → List (ℕ × DiskSeen)) (u v : World) (spaces : Spaces) (pushed : Result (Unit {0}) DiskFault) (G : FilesSeen) (xs ys : List (ℕ × D)) (fault : Option DiskFault)
     → ((i : ℕ) → HasBlocks (disk_at (seen ys) i).1.content (disk_at (seen ys) i).1.size) → MemoryFits (memory_of u spaces) → PushesPages u v spaces → seen xs ≡ disks_of v
-    → OnOk pushed (StoresPages u v (λ (n : PageName). Unit {0})) → IfErr pushed (IsFaultOfBays u.store.bays v.store.bays) → WritesBlanks v.files (seen xs) G (seen ys)
+    → OnOk pushed (StoresPages u v (λ (n : PageName). Unit {0})) → OnOk pushed (GoOrStay u v no_page) → IfErr pushed (FailsToPush u v) → WritesBlanks v.files (seen xs) G (seen ys)
     → IfNone fault (IsOk pushed × FillsPages v.files (seen xs) G (seen ys) (λ (n : PageName). Unit {0}))
-    → IfSome fault (λ f. MatchResult pushed (λ _. IsLastFault (seen xs) (seen ys) f) (λ first. (f ≡ first) × (ys ≡ xs))) → IsFinished u G (seen ys) fault
-finishes seen u v spaces pushed G xs ys fault whole fits p same stores push writes fills faults =
+    → IfSome fault (λ f. MatchResult pushed (λ _. FailsToFill v.files (seen xs) (seen ys) f) (λ first. (f ≡ first) × (ys ≡ xs))) → IsFinished u G (seen ys) fault
+finishes seen u v spaces pushed G xs ys fault whole fits p same stores goes push writes fills faults =
     let w : WritesBlanks v.files (disks_of v) G (seen ys) = subst (λ (l : List (ℕ × DiskSeen)). WritesBlanks v.files l G (seen ys)) same writes in
     record {
       closed = none-then fault _ _ (λ ok. all-held u v spaces G (seen ys) p.memory p (ok-then pushed _ stores ok.0) w (subst (λ (l : List (ℕ × DiskSeen)). FillsPages v.files l G (seen ys) (λ (n : PageName). Unit {0})) same ok.1) whole) fills;
       filled = none-then fault _ _ (λ ok. none-blank u v spaces G (seen ys) p.memory p (ok-then pushed _ stores ok.0) w (subst (λ (l : List (ℕ × DiskSeen)). FillsPages v.files l G (seen ys) (λ (n : PageName). Unit {0})) same ok.1) whole) fills;
       last = some-then fault _ _ (λ f is. first-fault u v spaces pushed seen xs ys f fits p same push is) faults;
+      left = some-then fault _ _ (λ f is. first-left u v spaces pushed seen xs ys f p same stores goes push w.disks is) faults;
       disks = keep-disks-then u.files v.files (disks_of u) (disks_of v) (seen ys) (records-of u v p.tables) (push-disks u v spaces p) w.disks;
       files = records-then u.files v.files G (records-of u v p.tables) w.records;
     }

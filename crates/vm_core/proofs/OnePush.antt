@@ -36,7 +36,7 @@ use Rattle.fault_entry.specs.seg_ops.Flights.{BeginsFor}
 use Rattle.fault_entry.specs.seg_ops.Marks.{files_pushed}
 use Rattle.fault_entry.proofs.seg_ops.StillSteps.{value-is}
 use Rattle.vm_core.specs.Finish.{IsFilePage, bytes_of_page, KeepsDisk, KeepRecords}
-use Rattle.vm_core.specs.Closing.{KeepsBay, PushesPages, IsStored, StoresPages, IsFaultOfBays, page_on_disk}
+use Rattle.vm_core.specs.Closing.{KeepsBay, PushesPages, IsStored, StoresPages, IsFaultOfBays, FailsToPush, GoOrStay, block_on, no_page, page_on_disk}
 use Rattle.vm_core.proofs.Records.{disk-kept, block-kept, bytes-kept}
 use Rattle.vm_core.proofs.Fills.{with_page_filled, blank-other, blank-now, stored-same, block-now, one-page, other-blocks-written}
 use Rattle.vm_core.proofs.Pushes.{records-of, bay-refl, no-slot, page-exists, page-is, place-is, valid-is}
@@ -166,15 +166,13 @@ module _ (u v w : World) (spaces : Spaces) (name : PageName) (f e : FlightSeen) 
   kept : KeepRecords u.files w.files
   kept = records-of u w push-pushes.tables
 
-  -- a page that was stored, and isn't the one that was pushed
-  other-stored : (n : PageName) → n ≢ name → IsFilePage u.files n
-      → page_on_disk w.files (disk_in (bay_at w.store.bays (disk_of_file u.files n.object))) n ≡ page_on_disk u.files (disk_in (bay_at u.store.bays (disk_of_file u.files n.object))) n
-  other-stored n ne page =
+  -- the block of a page that isn't the one that was pushed
+  other-block : (n : PageName) → n ≢ name → IsFilePage u.files n
+      → block_of (disk_in (bay_at w.store.bays (disk_of_file u.files n.object))).content (block_of_page u.files n.object n.page) ≡ block_on u n
+  other-block n ne page =
       let D : ℕ = disk_of_file u.files n.object in
       let b : ℕ = block_of_page u.files n.object n.page in
-      let blank = ap (λ (G : FilesSeen). is_blank (vnode_at G n.object) n.page) filled ∙ blank-other u.files name.object name.page n ne in
-      stored-same u.files w.files (disk_in (bay_at u.store.bays D)) (disk_in (bay_at w.store.bays D)) n kept blank
-      (elim (cases_eq D f.number) [
+      elim (cases_eq D f.number) [
         | inl is ↦
             let some = written-some (note_of f) e e.outcome (performed.written writes) in
             let far : b ≢ f.block = λ same. ne (one-page u.files n name fits.files page p (is ∙ number) (same ∙ block)) in
@@ -182,7 +180,22 @@ module _ (u v w : World) (spaces : Spaces) (name : PageName) (f e : FlightSeen) 
             ∙ ap (λ (o : Option (List (List ℕ))). block_of o b) some.1 ∙ block-other f.disk.content f.block b some.0 far
             ∙ sym (ap (λ (j : ℕ). block_of (disk_in (bay_at u.store.bays j)).content b) is ∙ ap (λ (y : BaySeen). block_of (disk_in y).content b) first.bays.0)
         | inr apart ↦ ap (λ (y : BaySeen). block_of (disk_in y).content b) (other-bay D apart)
-      ])
+      ]
+
+  -- a page that was stored, and isn't the one that was pushed
+  other-stored : (n : PageName) → n ≢ name → IsFilePage u.files n
+      → page_on_disk w.files (disk_in (bay_at w.store.bays (disk_of_file u.files n.object))) n ≡ page_on_disk u.files (disk_in (bay_at u.store.bays (disk_of_file u.files n.object))) n
+  other-stored n ne page =
+      let D : ℕ = disk_of_file u.files n.object in
+      let blank = ap (λ (G : FilesSeen). is_blank (vnode_at G n.object) n.page) filled ∙ blank-other u.files name.object name.page n ne in
+      stored-same u.files w.files (disk_in (bay_at u.store.bays D)) (disk_in (bay_at w.store.bays D)) n kept blank (other-block n ne page)
+
+  -- a block, by the records that the files keep
+  on-same : (n : PageName) → block_on w n ≡ block_of (disk_in (bay_at w.store.bays (disk_of_file u.files n.object))).content (block_of_page u.files n.object n.page)
+  on-same n = λ i. block_of (disk_in (bay_at w.store.bays (disk-kept u.files w.files kept n.object i))).content (block-kept u.files w.files kept n i)
+
+  other-stays : (n : PageName) → n ≢ name → IsFilePage u.files n → block_on w n ≡ block_on u n
+  other-stays n ne page = on-same n ∙ other-block n ne page
 
   was-stored : AllTell u no_notes → (n : PageName) → n ≢ name → IsFilePage u.files n → IsStored u n → IsStored w n
   was-stored tell n ne page was =
@@ -230,6 +243,20 @@ module _ (u v w : World) (spaces : Spaces) (name : PageName) (f e : FlightSeen) 
         subst (λ (k : ℕ). clip k (page_on_disk w.files (disk_in (bay_at w.store.bays (disk_of_file w.files name.object))) name) ≡ clip k (page_value w no_notes name)) (sym (bytes-kept u.files w.files kept name))
         (ap (clip n) (now-place tell) ∙ clip-twice n f.bytes low whole ∙ ap (clip n) (sym value) ∙ sym (value-kept tell name p))
 
+    now-went : AllTell u no_notes → clip n (block_on w name) ≡ clip n (page_value u no_notes name)
+    now-went tell =
+        let low : n ≤ 4096 = omega arith in
+        let value : page_value u no_notes name ≡ f.bytes = value-is u no_notes name (page-is u name fits.files p) ∙ value-home u.store no_notes (world_table u) name frame homed ∙ sym x.begins.bytes in
+        ap (clip n) (on-same name ∙ ap (λ (b : BaySeen). block_of (disk_in b).content B) (ap (bay_at w.store.bays) (sym number) ∙ new-bay) ∙ now-block tell)
+        ∙ ap (λ (k : ℕ). clip n (clip k f.bytes)) valid ∙ clip-twice n f.bytes low whole ∙ ap (clip n) (sym value)
+
+    -- IT BRINGS THE PAGE to its block, and leaves every other block of a page.
+    pub push-goes : GoOrStay u w no_page
+    push-goes tell other page = elim (is-or-not other name) [
+      | inl same ↦ inr (inl (subst (λ (m : PageName). clip (bytes_of_page u.files m) (block_on w m) ≡ clip (bytes_of_page u.files m) (page_value u no_notes m)) (sym same) (now-went tell)))
+      | inr ne ↦ inr (inr (other-stays other ne page))
+    ]
+
     -- IT STORES THE PAGE, and leaves those that were stored.
     pub push-stores : StoresPages u w (λ (other : PageName). other ≡ name)
     push-stores tell other page or = elim (is-or-not other name) [
@@ -238,7 +265,7 @@ module _ (u v w : World) (spaces : Spaces) (name : PageName) (f e : FlightSeen) 
     ]
 
   -- its fault, where it failed
-  pub push-fault : (fault : DiskFault) → fault.disk ≡ e.number → fault.before ≡ e.before → fault.after ≡ e.disk.faults → IsFaultOfBays u.store.bays w.store.bays fault
+  push-fault : (fault : DiskFault) → fault.disk ≡ e.number → fault.before ≡ e.before → fault.after ≡ e.disk.faults → IsFaultOfBays u.store.bays w.store.bays fault
   push-fault fault of before after =
       let same : fault.disk ≡ f.number = of ∙ performed.number in
       record {
@@ -249,3 +276,17 @@ module _ (u v w : World) (spaces : Spaces) (name : PageName) (f e : FlightSeen) 
         is = ap (bay_at w.store.bays) same ∙ new-bay;
         since = record { disk = refl; since = let a = before in let b = performed.before in omega (arith, a, b); after = after };
       }
+
+  -- its fault, and the block that it spoiled
+  pub push-fails : (fault : DiskFault) → fault.disk ≡ e.number → fault.before ≡ e.before → fault.after ≡ e.disk.faults → FailsToPush u w fault
+  push-fails fault of before after = record {
+    cause = push-fault fault of before after;
+    block = f.block;
+    others = λ tell other page. elim (is-or-not other name) [
+      | inl same ↦ inl (
+        ap (λ (m : PageName). disk_of_file u.files m.object) same ∙ sym number ∙ sym (of ∙ performed.number),
+        ap (λ (m : PageName). block_of_page u.files m.object m.page) same ∙ sym block,
+      )
+      | inr ne ↦ inr (inr (other-stays other ne page))
+    ];
+  }

@@ -41,9 +41,9 @@ use Rattle.fault_entry.specs.vm_world.Words.{KeepsPages}
 use Rattle.fault_entry.specs.seg_ops.Steps.{IsUnwritten}
 use Rattle.fault_entry.proofs.seg_ops.Evictions.{clean-page, not-modified}
 use Rattle.fault_entry.proofs.seg_ops.StillSteps.{value-is}
-use Rattle.vm_core.specs.Finish.{IsFilePage, bytes_of_page, KeepRecords}
-use Rattle.vm_core.specs.Closing.{KeepsBay, PushesPages, IsStored, StoresPages, IsFaultOfBays, page_on_disk}
-use Rattle.vm_core.proofs.Records.{page-kept, bytes-kept, keeps-disk-refl, keeps-disk-then}
+use Rattle.vm_core.specs.Finish.{IsFilePage, LiesIn, bytes_of_page, KeepRecords}
+use Rattle.vm_core.specs.Closing.{KeepsBay, PushesPages, IsStored, StoresPages, IsFaultOfBays, FailsToPush, GoOrStay, GoesOrStays, block_on, no_page, page_on_disk}
+use Rattle.vm_core.proofs.Records.{page-kept, bytes-kept, lies-back, keeps-disk-refl, keeps-disk-then}
 use Rattle.vm_core.proofs.Fills.{kept-page}
 
 pub records-of : (u v : World) → KeepsTables u v → KeepRecords u.files v.files
@@ -127,6 +127,40 @@ fault-later u v w spaces fault p f =
       is = f.is;
       since = record { disk = f.since.disk; since = let a = was.2 in let b = f.since.since in omega (arith, a, b); after = f.since.after };
     }
+
+-- WHAT HAS COME TO ITS BLOCK, one push after another
+pub goes-refl : (w : World) → GoOrStay w w no_page
+goes-refl w tell name page = inr (inr refl)
+
+goes-both : (u v w : World) (spaces : Spaces) (name : PageName) → PushesPages u v spaces → AllTell u no_notes → IsFilePage u.files name → GoesOrStays u v name → GoesOrStays v w name → GoesOrStays u w name
+goes-both u v w spaces name p tell page first second = elim second [
+  | inl went ↦
+      let n = bytes-kept u.files v.files (records-of u v p.tables) name in
+      inl (subst (λ (k : ℕ). clip k (block_on w name) ≡ clip k (page_value v no_notes name)) n went ∙ p.values tell name page)
+  | inr stayed ↦ elim first [
+    | inl went ↦ inl (ap (clip (bytes_of_page u.files name)) stayed ∙ went)
+    | inr still ↦ inr (stayed ∙ still)
+  ]
+]
+
+pub goes-then : (u v w : World) (spaces : Spaces) (P Q : PageName → Type 0) → PushesPages u v spaces → GoOrStay u v no_page → GoOrStay v w P → ((n : PageName) → P n → Q n) → GoOrStay u w Q
+goes-then u v w spaces P Q p first second more tell name page =
+    elim (second (p.tells tell) name (page-kept u.files v.files (records-of u v p.tables) name page)) [
+      | inl spoiled ↦ inl (more name spoiled)
+      | inr now ↦ elim (first tell name page) [ inl none ↦ absurd none | inr was ↦ inr (goes-both u v w spaces name p tell page was now) ]
+    ]
+
+pub fails-later : (u v w : World) (spaces : Spaces) (fault : DiskFault) → PushesPages u v spaces → GoOrStay u v no_page → FailsToPush v w fault → FailsToPush u w fault
+fails-later u v w spaces fault p first f = record {
+  cause = fault-later u v w spaces fault p f.cause;
+  block = f.block;
+  others = goes-then u v w spaces (LiesIn v.files fault.disk f.block) (LiesIn u.files fault.disk f.block) p first f.others (λ n. lies-back u.files v.files fault.disk f.block n (records-of u v p.tables));
+}
+
+-- where disks and files are as they were
+pub calm-goes : (u v : World) → v.store.bays ≡ u.store.bays → v.files ≡ u.files → GoOrStay u v no_page
+calm-goes u v bays files tell name page =
+    inr (inr (λ i. block_of (disk_in (bay_at (bays i) (disk_of_file (files i) name.object))).content (block_of_page (files i) name.object name.page)))
 
 -- WHERE A PAGE OF A FILE LIVES
 module _ (w : World) (name : PageName) (fit : FilesFit w.files) (p : IsFilePage w.files name) where

@@ -15,7 +15,7 @@ use Rattle.fault_entry.specs.flat_model.Words.{pages_in}
 use Rattle.fault_entry.specs.vm_world.FramesFit.{FilesFit}
 use Rattle.fault_entry.specs.vm_world.World.{file_blocks}
 use Rattle.fault_entry.proofs.vm_world.LieAlike.{lie-alike}
-use Rattle.vm_core.specs.Finish.{IsFilePage, bytes_of_page, disk_at, IsPageBlock, KeepsOtherBlocks, KeepsDisk, KeepDisks, KeepRecords}
+use Rattle.vm_core.specs.Finish.{IsFilePage, LiesIn, bytes_of_page, disk_at, IsPageBlock, KeepsOtherBlocks, KeepsDisk, KeepDisks, KeepRecords}
 
 pub info-kept : (F G : FilesSeen) → KeepRecords F G → (f : ℕ) → (vnode_at G f).info ≡ (vnode_at F f).info
 info-kept F G k f = info-at G.files f ∙ ap (λ (infos : List FileInfo). slice_index_or infos f no_vnode.info) k.infos ∙ sym (info-at F.files f)
@@ -47,6 +47,9 @@ block-kept F G k n = ap (λ (i : FileInfo). slice_index_or (page_blocks i.extent
 
 pub bytes-kept : (F G : FilesSeen) → KeepRecords F G → (n : PageName) → bytes_of_page G n ≡ bytes_of_page F n
 bytes-kept F G k n = ap (λ (i : FileInfo). bytes_of_page (record { disks = finite.empty; files = record { info = i; blanks = [] } ∷ [] }) (record { object = 0; page = n.page })) (info-kept F G k n.object)
+
+pub lies-back : (F G : FilesSeen) (disk block : ℕ) (n : PageName) → KeepRecords F G → LiesIn G disk block n → LiesIn F disk block n
+lies-back F G disk block n k lies = (sym (disk-kept F G k n.object) ∙ lies.0, sym (block-kept F G k n) ∙ lies.1)
 
 pub page-block-back : (F G : FilesSeen) (disk block : ℕ) → KeepRecords F G → IsPageBlock G disk block → IsPageBlock F disk block
 page-block-back F G disk block k p = record {

@@ -1,5 +1,5 @@
 -- How pages of files come to be on their disks. Inside: no public clause cites this.
-use Rattle.std.specs.Prelude.{ℕ, ◌≡◌, ◌⊎◌, ◌<◌, List, length, Some, Result, IsSome, IsFalse, if◌then◌else◌, slice_set}
+use Rattle.std.specs.Prelude.{ℕ, ◌≡◌, ◌⊎◌, ◌<◌, List, length, Some, Result, IsSome, IsTrue, IsFalse, if◌then◌else◌, slice_set}
 use Rattle.std.specs.FinMap as finite
 use Rattle.fault_entry.specs.block_device.DiskSeen.{DiskSeen, Writes}
 use Rattle.fault_entry.specs.block_device.Faults.{IsFaultSince}
@@ -19,7 +19,7 @@ use Rattle.fault_entry.specs.vm_world.Pages.{page_value}
 use Rattle.fault_entry.specs.vm_world.Segments.{Spaces}
 use Rattle.fault_entry.specs.vm_world.World.{World, AllTell}
 use Rattle.fault_entry.specs.vm_world.WorldSteps.{KeepsTables}
-use Rattle.vm_core.specs.Finish.{IsFilePage, bytes_of_page, disk_at, KeepsDisk, KeepDisks, KeepRecords}
+use Rattle.vm_core.specs.Finish.{IsFilePage, LiesIn, bytes_of_page, disk_at, KeepsDisk, KeepDisks, KeepRecords, IsLastFault}
 
 -- A disk that is home stays so, and keeps what isn't a page of a file; nothing else is there that wasn't.
 abbrev pub KeepsBay : FilesSeen → ℕ → BaySeen → BaySeen → Type 0
@@ -57,6 +57,23 @@ abbrev pub StoresPages : World → World → (PageName → Type 0) → Type 0
 StoresPages old new these =
     AllTell old no_notes → (name : PageName) → IsFilePage old.files name → IsStored old name ⊎ these name → IsStored new name
 
+-- What the block of a page of a file has, on its disk.
+abbrev pub block_on : World → PageName → List ℕ
+block_on w name = block_of (disk_in (bay_at w.store.bays (disk_of_file w.files name.object))).content (block_of_page w.files name.object name.page)
+
+-- The block of a page of a file has the page then, as far as the file goes, or what it had.
+abbrev pub GoesOrStays : World → World → PageName → Type 0
+GoesOrStays old new name =
+    (clip (bytes_of_page old.files name) (block_on new name) ≡ clip (bytes_of_page old.files name) (page_value old no_notes name))
+    ⊎ (block_on new name ≡ block_on old name)
+
+-- So has that of each page of a file, these aside.
+abbrev pub GoOrStay : World → World → (PageName → Type 0) → Type 0
+GoOrStay old new spoiled = AllTell old no_notes → (name : PageName) → IsFilePage old.files name → spoiled name ⊎ GoesOrStays old new name
+
+abbrev pub no_page : PageName → Type 0
+no_page name = ⊥
+
 -- The fault is that of the last transfer of a disk of files, made since that disk was the one of the old bays.
 pub record IsFaultOfBays (old new : List BaySeen) (fault : DiskFault) : Type 0 where
   pub before : DiskSeen
@@ -65,6 +82,12 @@ pub record IsFaultOfBays (old new : List BaySeen) (fault : DiskFault) : Type 0 w
   pub was : bay_at old fault.disk ≡ home before
   pub is : bay_at new fault.disk ≡ home after
   pub since : IsFaultSince fault.disk before.faults after fault
+
+-- A push failed: its fault, and one block that isn't as it was, nor has its page.
+pub record FailsToPush (old new : World) (fault : DiskFault) : Type 0 where
+  pub cause : IsFaultOfBays old.store.bays new.store.bays fault
+  pub block : ℕ
+  pub others : GoOrStay old new (LiesIn old.files fault.disk block)
 
 -- These are the disks of the files: each file's disk is one of them, and has the size that its files count on.
 pub record AreDisksOf (files : FilesSeen) (disks : List (ℕ × DiskSeen)) : Type 0 where
@@ -85,6 +108,24 @@ pub record FillsPages (F : FilesSeen) (L : List (ℕ × DiskSeen)) (G : FilesSee
       → IsSome (disk_at L i).1.content → page_on_disk G (disk_at M i).1 name ≡ page_on_disk F (disk_at L i).1 name
   pub filled : (name : PageName) → IsFilePage F name → IsFalse (is_blank (vnode_at F name.object) name.page) ⊎ these name
       → IsFalse (is_blank (vnode_at G name.object) name.page)
+
+-- The block of a page of a file has zeros then, where the page was blank, or what it had.
+abbrev pub ZeroedOrStays : FilesSeen → DiskSeen → DiskSeen → PageName → Type 0
+ZeroedOrStays files was now name =
+    (IsTrue (is_blank (vnode_at files name.object) name.page) × (block_of now.content (block_of_page files name.object name.page) ≡ zeros))
+    ⊎ (block_of now.content (block_of_page files name.object name.page) ≡ block_of was.content (block_of_page files name.object name.page))
+
+-- So has that of each page of a file on these disks, these aside.
+abbrev pub ZeroedOrStay : FilesSeen → List (ℕ × DiskSeen) → List (ℕ × DiskSeen) → (PageName → Type 0) → Type 0
+ZeroedOrStay files old new spoiled =
+    (i : ℕ) (name : PageName) → i < length old → IsFilePage files name → disk_of_file files name.object ≡ (disk_at old i).0
+    → IsSome (disk_at old i).1.content → spoiled name ⊎ ZeroedOrStays files (disk_at old i).1 (disk_at new i).1 name
+
+-- A write of zeros failed: its fault, and one block that isn't as it was, nor has zeros.
+pub record FailsToFill (files : FilesSeen) (old new : List (ℕ × DiskSeen)) (fault : DiskFault) : Type 0 where
+  pub cause : IsLastFault old new fault
+  pub block : ℕ
+  pub others : ZeroedOrStay files old new (LiesIn files fault.disk block)
 
 -- Zeros are written to a block of the disk of a number.
 pub record WritesZeros {E : Type 0} (before after : List (ℕ × DiskSeen)) (number block : ℕ) (result : Result (Unit {0}) E) : Type 0 where

@@ -1,5 +1,5 @@
 -- What is left of a kernel that was closed: its history, and its files with their pages on the disks. Public clauses cite this.
-use Rattle.std.specs.Prelude.{ℕ, ◌≡◌, ◌≤◌, ◌<◌, List, [], length, map, IsFalse, Option, Some, None, IfSome, slice_index_or}
+use Rattle.std.specs.Prelude.{ℕ, ◌≡◌, ◌⊎◌, ◌≤◌, ◌<◌, List, [], length, map, IsFalse, Option, Some, None, IfSome, slice_index_or}
 use Rattle.fault_entry.specs.vm_types.declared.call.Entry.{Entry}
 use Rattle.fault_entry.specs.vm_types.Pages.{bytes_before}
 use Rattle.fault_entry.specs.block_device.DiskSeen.{DiskSeen}
@@ -58,6 +58,26 @@ HoldsFiles w disk = IfSome disk.1.content (λ blocks. (name : PageName) → IsFi
 -- All of these disks do.
 abbrev pub HoldAllFiles : World → List (ℕ × DiskSeen) → Type 0
 HoldAllFiles w disks = (i : ℕ) → i < length disks → HoldsFiles w (disk_at disks i)
+
+-- The block of a page has the page, as far as its file goes, or what it had.
+abbrev pub HoldsOrKeeps : World → List (List ℕ) → List (List ℕ) → PageName → Type 0
+HoldsOrKeeps w was now name =
+    HoldsPage w.files now name (page_value w no_notes name)
+    ⊎ (slice_index_or now (block_of_page w.files name.object name.page) [] ≡ slice_index_or was (block_of_page w.files name.object name.page) [])
+
+-- The page lies in this block of this disk.
+abbrev pub LiesIn : FilesSeen → ℕ → ℕ → PageName → Type 0
+LiesIn files disk block name = (disk_of_file files name.object ≡ disk) × (block_of_page files name.object name.page ≡ block)
+
+-- Of a disk that tells: each page of a file that lies there does so, but for one that lies in the spoiled block of the spoiled disk.
+abbrev pub LeavesPages : World → ℕ → ℕ → ℕ × DiskSeen → ℕ × DiskSeen → Type 0
+LeavesPages w disk block was now =
+    IfSome was.1.content (λ old. IfSome now.1.content (λ new. (name : PageName) → IsFilePage w.files name → disk_of_file w.files name.object ≡ was.0
+    → LiesIn w.files disk block name ⊎ HoldsOrKeeps w old new name))
+
+-- On all of these disks, but for one block of this disk.
+abbrev pub LeaveAllPages : World → List (ℕ × DiskSeen) → List (ℕ × DiskSeen) → ℕ → Type 0
+LeaveAllPages w old new disk = (block : ℕ) × ((i : ℕ) → i < length old → LeavesPages w disk block (disk_at old i) (disk_at new i))
 
 -- The block of a disk is that of a page of a file.
 pub record IsPageBlock (files : FilesSeen) (disk block : ℕ) : Type 0 where

@@ -2,7 +2,7 @@
 ghost use Rattle.std.specs.Prelude.{◌≡◌, ◌<◌, ℕ, length, IfErr, IfNone, IfSome, OnOk, MatchResult};
 ghost use Rattle.std.specs.Result.{IsOk};
 ghost use Rattle.fault_entry.specs.page_store.Bays.{pairs_seen};
-ghost use Rattle.vm_core.specs.Closing.{AreDisksOf, WritesBlanks, FillsPages, WritesZeros};
+ghost use Rattle.vm_core.specs.Closing.{AreDisksOf, WritesBlanks, FillsPages, WritesZeros, ZeroedOrStay, FailsToFill, no_page};
 ghost use Rattle.vm_core.specs.Finish.{IsFilePage, disk_at, IsLastFault};
 ghost use Rattle.fault_entry.specs.vm_world.World.{file_name};
 
@@ -32,8 +32,8 @@ fn write_zeros<D: Disk>(disks: &mut [(u32, D)], number: u32, block: u32) -> Resu
         → block < (disk_at (pairs_seen D.seen disks.old) i).1.size }
     ensures writes { WritesZeros
         (pairs_seen D.seen disks.old) (pairs_seen D.seen disks.new) number block result }
-    ensures fault { IfErr result
-        (IsLastFault (pairs_seen D.seen disks.old) (pairs_seen D.seen disks.new)) }
+    ensures fault { IfErr result (λ fault. (fault.disk ≡ number)
+        × IsLastFault (pairs_seen D.seen disks.old) (pairs_seen D.seen disks.new) fault) }
 {
     let at = place_of(disks, number);
     write_block(number, &mut disks[at].1, block, &[0; 4096])
@@ -50,8 +50,10 @@ fn fill_page<D: Disk>(
     requires disks { AreDisksOf files.old (pairs_seen D.seen disks.old) }
     ensures fills { OnOk result (FillsPages files.old (pairs_seen D.seen disks.old)
         files.new (pairs_seen D.seen disks.new) (λ name. name ≡ file_name file page)) }
-    ensures fault { IfErr result
-        (IsLastFault (pairs_seen D.seen disks.old) (pairs_seen D.seen disks.new)) }
+    ensures goes { OnOk result (ZeroedOrStay files.old
+        (pairs_seen D.seen disks.old) (pairs_seen D.seen disks.new) no_page) }
+    ensures fault { IfErr result (FailsToFill files.old
+        (pairs_seen D.seen disks.old) (pairs_seen D.seen disks.new)) }
     // What stays.
     ensures writes { WritesBlanks files.old (pairs_seen D.seen disks.old)
         files.new (pairs_seen D.seen disks.new) }
@@ -69,8 +71,10 @@ fn fill_file<D: Disk>(files: &mut Files, disks: &mut [(u32, D)], file: u32) -> R
     requires disks { AreDisksOf files.old (pairs_seen D.seen disks.old) }
     ensures fills { OnOk result (FillsPages files.old (pairs_seen D.seen disks.old)
         files.new (pairs_seen D.seen disks.new) (λ name. name.object ≡ file)) }
-    ensures fault { IfErr result
-        (IsLastFault (pairs_seen D.seen disks.old) (pairs_seen D.seen disks.new)) }
+    ensures goes { OnOk result (ZeroedOrStay files.old
+        (pairs_seen D.seen disks.old) (pairs_seen D.seen disks.new) no_page) }
+    ensures fault { IfErr result (FailsToFill files.old
+        (pairs_seen D.seen disks.old) (pairs_seen D.seen disks.new)) }
     // What stays.
     ensures writes { WritesBlanks files.old (pairs_seen D.seen disks.old)
         files.new (pairs_seen D.seen disks.new) }
@@ -89,8 +93,10 @@ pub(crate) fn fill_files<D: Disk>(
     requires { AreDisksOf files.old (pairs_seen D.seen disks.old) }
     ensures fills { OnOk result (FillsPages files.old (pairs_seen D.seen disks.old)
         files.new (pairs_seen D.seen disks.new) (λ name. Unit {0})) }
-    ensures fault { IfErr result
-        (IsLastFault (pairs_seen D.seen disks.old) (pairs_seen D.seen disks.new)) }
+    ensures goes { OnOk result (ZeroedOrStay files.old
+        (pairs_seen D.seen disks.old) (pairs_seen D.seen disks.new) no_page) }
+    ensures fault { IfErr result (FailsToFill files.old
+        (pairs_seen D.seen disks.old) (pairs_seen D.seen disks.new)) }
     // What stays.
     ensures writes { WritesBlanks files.old (pairs_seen D.seen disks.old)
         files.new (pairs_seen D.seen disks.new) }
@@ -111,7 +117,8 @@ pub(crate) fn fill_if_pushed<D: Disk>(
     ensures fills { IfNone result (IsOk pushed × FillsPages files.old (pairs_seen D.seen disks.old)
         files.new (pairs_seen D.seen disks.new) (λ name. Unit {0})) }
     ensures fault { IfSome result (λ fault. MatchResult pushed
-        (λ _. IsLastFault (pairs_seen D.seen disks.old) (pairs_seen D.seen disks.new) fault)
+        (λ _. FailsToFill files.old
+        (pairs_seen D.seen disks.old) (pairs_seen D.seen disks.new) fault)
         (λ first. (fault ≡ first) × (disks.new ≡ disks.old))) }
     // What stays.
     ensures writes { WritesBlanks files.old (pairs_seen D.seen disks.old)

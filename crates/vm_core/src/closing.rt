@@ -7,7 +7,7 @@ ghost use Rattle.fault_entry.specs.page_store.Laws.{SameResidence};
 ghost use Rattle.fault_entry.specs.page_store.Notes.{no_notes};
 ghost use Rattle.fault_entry.specs.page_store.Seen.{IsListedFrame};
 ghost use Rattle.fault_entry.specs.seg_ops.Steps.{IsUnwritten};
-ghost use Rattle.vm_core.specs.Closing.{PushesPages, StoresPages, IsFaultOfBays};
+ghost use Rattle.vm_core.specs.Closing.{PushesPages, StoresPages, GoOrStay, FailsToPush, no_page};
 ghost use Rattle.vm_core.specs.Finish.{IsFilePage};
 ghost use Rattle.fault_entry.specs.vm_world.NotesFit.{NotesFit};
 ghost use Rattle.fault_entry.specs.vm_world.Segments.{Spaces};
@@ -44,6 +44,7 @@ fn is_modified<D: Disk>(world: &mut World<D>, name: PageName) -> bool
     ensures dirty { OnTrue result (IsDirtyPage (world_seen world.new) name) }
     ensures stored { StoresPages (world_seen world.old) (world_seen world.new)
         (λ other. (other ≡ name) × (result ≡ false)) }
+    ensures goes { GoOrStay (world_seen world.old) (world_seen world.new) no_page }
     // What stays.
     ensures pushes { (spaces : Spaces) → Fits world.old spaces
         → PushesPages (world_seen world.old) (world_seen world.new) spaces }
@@ -65,7 +66,8 @@ fn push_page<D: Disk>(world: &mut World<D>, name: PageName) -> Result<(), DiskFa
     requires noted { NotesFit (world_seen world.old) no_notes }
     ensures stored { OnOk result (StoresPages (world_seen world.old) (world_seen world.new)
         (λ other. other ≡ name)) }
-    ensures fault { IfErr result (IsFaultOfBays world.old.store.bays world.new.store.bays) }
+    ensures goes { OnOk result (GoOrStay (world_seen world.old) (world_seen world.new) no_page) }
+    ensures fault { IfErr result (FailsToPush (world_seen world.old) (world_seen world.new)) }
     // What stays.
     ensures pushes { (spaces : Spaces) → Fits world.old spaces
         → PushesPages (world_seen world.old) (world_seen world.new) spaces }
@@ -91,7 +93,8 @@ fn push_if_modified<D: Disk>(world: &mut World<D>, name: PageName) -> Result<(),
     requires noted { NotesFit (world_seen world.old) no_notes }
     ensures stored { OnOk result (StoresPages (world_seen world.old) (world_seen world.new)
         (λ other. other ≡ name)) }
-    ensures fault { IfErr result (IsFaultOfBays world.old.store.bays world.new.store.bays) }
+    ensures goes { OnOk result (GoOrStay (world_seen world.old) (world_seen world.new) no_page) }
+    ensures fault { IfErr result (FailsToPush (world_seen world.old) (world_seen world.new)) }
     // What stays.
     ensures pushes { (spaces : Spaces) → Fits world.old spaces
         → PushesPages (world_seen world.old) (world_seen world.new) spaces }
@@ -110,7 +113,8 @@ fn push_file<D: Disk>(world: &mut World<D>, file: u32) -> Result<(), DiskFault>
     requires noted { NotesFit (world_seen world.old) no_notes }
     ensures stored { OnOk result (StoresPages (world_seen world.old) (world_seen world.new)
         (λ other. other.object ≡ file)) }
-    ensures fault { IfErr result (IsFaultOfBays world.old.store.bays world.new.store.bays) }
+    ensures goes { OnOk result (GoOrStay (world_seen world.old) (world_seen world.new) no_page) }
+    ensures fault { IfErr result (FailsToPush (world_seen world.old) (world_seen world.new)) }
     // What stays.
     ensures pushes { (spaces : Spaces) → Fits world.old spaces
         → PushesPages (world_seen world.old) (world_seen world.new) spaces }
@@ -127,7 +131,8 @@ pub(crate) fn push_files<D: Disk>(world: &mut World<D>) -> Result<(), DiskFault>
     requires noted { NotesFit (world_seen world.old) no_notes }
     ensures stored { OnOk result (StoresPages (world_seen world.old) (world_seen world.new)
         (λ other. Unit {0})) }
-    ensures fault { IfErr result (IsFaultOfBays world.old.store.bays world.new.store.bays) }
+    ensures goes { OnOk result (GoOrStay (world_seen world.old) (world_seen world.new) no_page) }
+    ensures fault { IfErr result (FailsToPush (world_seen world.old) (world_seen world.new)) }
     // What stays.
     ensures pushes { (spaces : Spaces) → Fits world.old spaces
         → PushesPages (world_seen world.old) (world_seen world.new) spaces }

@@ -3,7 +3,7 @@ ghost use Rattle.std.specs.Prelude.{◌≡◌, ℕ, None, IfNone, IfSome, MatchO
 ghost use Rattle.fault_entry.specs.page_store.Bays.{bay_at, home, missing, home_faults, pairs_seen};
 ghost use Rattle.fault_entry.specs.page_store.Notes.{no_notes};
 ghost use Rattle.fault_entry.specs.page_store.Seen.{IsSoundStore};
-ghost use Rattle.vm_core.specs.Finish.{FitsStill, disks_of, HoldAllFiles, IsLastFault, KeepDisks, KeepRecords, HaveNoBlankPage};
+ghost use Rattle.vm_core.specs.Finish.{FitsStill, disks_of, HoldAllFiles, LeaveAllPages, IsLastFault, KeepDisks, KeepRecords, HaveNoBlankPage};
 ghost use Rattle.fault_entry.specs.vm_world.MemoryFits.{MemoryFits};
 ghost use Rattle.fault_entry.specs.vm_world.NotesFit.{NotesFit};
 ghost use Rattle.fault_entry.specs.vm_world.Segments.{Spaces};
@@ -51,9 +51,13 @@ fn finish_world<D: Disk>(world: World<D>, entries: Vec<Entry>) -> Finished<D>
     ensures closed { IfNone result.fault (AllTell (world_seen world) no_notes
         → HoldAllFiles (world_seen world) (pairs_seen D.seen result.disks.items)) }
     ensures filled { IfNone result.fault (HaveNoBlankPage result.files) }
-    // A fault is that of a transfer of this call, the last one.
+    // A fault is that of a transfer of this call, the last one; but for one block of its disk, each
+    // page has come to its block, or the block has what it had.
     ensures fault { IfSome result.fault
         (IsLastFault (disks_of (world_seen world)) (pairs_seen D.seen result.disks.items)) }
+    ensures left { IfSome result.fault (λ fault. AllTell (world_seen world) no_notes
+        → LeaveAllPages (world_seen world) (disks_of (world_seen world))
+        (pairs_seen D.seen result.disks.items) fault.disk) }
     // What stays.
     ensures disks { KeepDisks world.files (disks_of (world_seen world))
         (pairs_seen D.seen result.disks.items) }
@@ -91,9 +95,13 @@ impl<D: Disk> VmState<D> {
         ensures closed { IfNone result.fault (AllTell self.memory.world no_notes
             → HoldAllFiles self.memory.world (pairs_seen D.seen result.disks.items)) }
         ensures filled { IfNone result.fault (HaveNoBlankPage result.files) }
-        // A fault is that of a transfer of this call, the last one of its disk.
+        // A fault is that of a transfer of this call, the last one of its disk. Where the disks tell,
+        // each block of a page then has the page or what it had, but for one of that disk.
         ensures fault { IfSome result.fault (IsLastFault (disks_of self.memory.world)
             (pairs_seen D.seen result.disks.items)) }
+        ensures left { IfSome result.fault (λ fault. AllTell self.memory.world no_notes
+            → LeaveAllPages self.memory.world (disks_of self.memory.world)
+            (pairs_seen D.seen result.disks.items) fault.disk) }
         // What stays, with a fault too.
         ensures disks { KeepDisks self.memory.world.files (disks_of self.memory.world)
             (pairs_seen D.seen result.disks.items) }

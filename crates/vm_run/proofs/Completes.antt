@@ -13,9 +13,8 @@ use Rattle.vm_run.specs.Asked.{Given, Asked, Asks, WasAsked, run_request, reques
 use Rattle.command_line.specs.Options.{options_of}
 use Rattle.vm_run.specs.Ending.{fault_of, status_of}
 use Rattle.vm_run.specs.Ended.{End}
-use Rattle.volume_files.specs.Handed.{IsCountedBy}
-use Rattle.volume_files.specs.Opened.{OpenedFile, opened_files}
-use Rattle.vm_run.specs.Run.{CaseOf, DisksTell, FailsToOpen, IsComplete, IsDiskCounted, Outside, RunEnds, wrote_all}
+use Rattle.volume_files.specs.Handed.{HasRefusalCause, IsCountedBy}
+use Rattle.vm_run.specs.Run.{CaseOf, FailsToOpen, IsComplete, IsDiskCounted, Outside, RunEnds, wrote_all}
 
 told-text : {R : Type 0} (said : Option (List ℕ)) (F : List ℕ → R) (q r : R) → option_map F said ≡ Some q → (text : List ℕ) × IfSome said (λ told. told ≡ text) × (F text ≡ r) → r ≡ q
 told-text None F q r is h = absurd (none-some q is)
@@ -41,33 +40,30 @@ rack-or-disk f P Q h never = by f.counts h
 
 module _ (g : Given) (o : Outside) (e : End) where
   by-case : (how : Ending) → e.status ≡ status_of how → e.fault ≡ fault_of how → CaseOf g o (wrote_all o) e how → IsComplete g o e
-  by-case ending.Whole s f c what files is op ns nk nr = inl s
-  by-case ending.Usage s f c what files is op ns nk nr = absurd (not-stopped g what ending.Usage is c.0)
-  by-case (ending.NoScript x) s f c what files is op ns nk nr = absurd (not-stopped g what (ending.NoScript x) is c.0)
-  by-case ending.Later s f c what files is op ns nk nr = absurd (not-stopped g what ending.Later is c.0)
-  by-case (ending.Refused r) s f (inl c) what files is op ns nk nr = absurd (not-stopped g what (ending.Refused r) is c.0)
-  by-case (ending.Refused r) s f (inr c) what files is op ns nk nr = inr (inr (inr (
-    s,
-    λ (t : DisksTell g what e).
-        let same : c.what ≡ what = same-run_request g what c.what is c.asked in
-        let broken : opened_files what.plan g.holds ≡ Err r = subst (λ (w : Asked). opened_files w.plan g.holds ≡ Err r) same (c.cause.told t.disks) in
-        let bad : ◌≡◌ {A = Result (List OpenedFile) Refusal} (Ok files) (Err r) = sym op ∙ broken in
-        cc,
-  )))
-  by-case ending.NotRead s f c what files is op ns nk nr = absurd (ns c.0.risen)
-  by-case ending.OpeningSink s f c what files is op ns nk nr = absurd (nk c.cause)
-  by-case ending.Sink s f c what files is op ns nk nr = absurd (nk c.cause)
-  by-case (ending.Opening x) s f c what files is op ns nk nr = inr (inr (inl (subst IsDiskCounted (sym f) (counted c))))
+  by-case ending.Whole s f c what is ns nk nr = inl s
+  by-case ending.Usage s f c what is ns nk nr = absurd (not-stopped g what ending.Usage is c.0)
+  by-case (ending.NoScript x) s f c what is ns nk nr = absurd (not-stopped g what (ending.NoScript x) is c.0)
+  by-case ending.Later s f c what is ns nk nr = absurd (not-stopped g what ending.Later is c.0)
+  by-case (ending.Refused r) s f (inl c) what is ns nk nr = absurd (not-stopped g what (ending.Refused r) is c.0)
+  by-case (ending.Refused r) s f (inr c) what is ns nk nr = inr (inr (inr (record {
+    status = s;
+    rule = r;
+    cause = subst (λ (w : Asked). HasRefusalCause w.plan g.holds e.disks e.swap r) (same-run_request g what c.what is c.asked) c.cause;
+  })))
+  by-case ending.NotRead s f c what is ns nk nr = absurd (ns c.0.risen)
+  by-case ending.OpeningSink s f c what is ns nk nr = absurd (nk c.cause)
+  by-case ending.Sink s f c what is ns nk nr = absurd (nk c.cause)
+  by-case (ending.Opening x) s f c what is ns nk nr = inr (inr (inl (subst IsDiskCounted (sym f) (counted c))))
     where
       counted : FailsToOpen g o (wrote_all o) x e → IsSome x.counts
       counted (inl k) = rack-or-disk x (HasRisen o.rack_old o.rack_new) (λ counts. IsCountedBy k.what.plan e.disks e.swap x.disk counts.0 counts.1) k.cause nr
       counted (inr k) = rack-or-disk x ⊥ (λ counts. IsCountedBy k.what.plan e.disks e.swap x.disk counts.0 counts.1) k.cause (λ none. none)
-  by-case (ending.Closing x) s f c what files is op ns nk nr = inr (inr (inl (subst IsDiskCounted (sym f) tt)))
-  by-case (ending.Showing x) s f c what files is op ns nk nr = inr (inr (inl (subst IsDiskCounted (sym f) tt)))
-  by-case ending.Memory s f c what files is op ns nk nr = inr (inl s)
+  by-case (ending.Closing x) s f c what is ns nk nr = inr (inr (inl (subst IsDiskCounted (sym f) tt)))
+  by-case (ending.Showing x) s f c what is ns nk nr = inr (inr (inl (subst IsDiskCounted (sym f) tt)))
+  by-case ending.Memory s f c what is ns nk nr = inr (inl s)
 
   pub completes : RunEnds g o e → IsComplete g o e
   completes r = elim r.case [
     | inl told ↦ by-case r.how r.status r.fault told.case
-    | inr line ↦ λ what files is op ns nk nr. inr (inl (r.status ∙ ap status_of line.memory))
+    | inr line ↦ λ what is ns nk nr. inr (inl (r.status ∙ ap status_of line.memory))
   ]

@@ -345,10 +345,16 @@ IsDiskCounted (Some (fault.Opening f)) = IsSome f.counts
 IsDiskCounted (Some (fault.Closing f)) = Unit {0}
 IsDiskCounted (Some (fault.Showing f)) = Unit {0}
 
--- Words that are taken, a script, the set-up rules kept, and no fault counted by source, sink and rack: the whole report, or want of memory, or a
--- fault that a disk counted, or disks that don't tell break a rule.
+-- Set-up rules were broken by the tables that were read and the script's lines, one of them first.
+pub record BreaksSetup (g : Given) (what : Asked) (e : End) : Type 0 where
+  pub status : e.status ≡ 4
+  pub rule : Refusal
+  pub cause : HasRefusalCause what.plan g.holds e.disks e.swap rule
+
+-- Words that are taken, a script, and no fault counted by source, sink and rack: the whole report, or want of memory, or a fault that a disk counted, or a
+-- set-up rule is broken. Where the disks that came back tell, it is the one that `opened_files` answers: none where that answers files.
 abbrev pub IsComplete : Given → Outside → End → Type 0
 IsComplete g o e =
-    (what : Asked) (files : List OpenedFile) → run_request g ≡ Some (Ok what) → opened_files what.plan g.holds ≡ Ok files
+    (what : Asked) → run_request g ≡ Some (Ok what)
     → ¬ HasRisen o.source_old o.source_new → ¬ HasRisen o.sink_old.faults o.sink_new.faults → ¬ HasRisen o.rack_old o.rack_new
-    → (e.status ≡ 0) ⊎ (e.status ≡ 8) ⊎ IsDiskCounted e.fault ⊎ ((e.status ≡ 4) × ¬ DisksTell g what e)
+    → (e.status ≡ 0) ⊎ (e.status ≡ 8) ⊎ IsDiskCounted e.fault ⊎ BreaksSetup g what e

@@ -25,6 +25,13 @@ use volume_files::{
     show_files, write_all, write_tables,
 };
 
+// Room for the sections of most histories: 16 bytes an entry, about what a load or a store prints. A longer text takes more as it grows.
+fn room_for_text(history: &[Entry]) -> usize
+    requires { length history.now < 2 ^ 32 }
+{
+    16 * history.len()
+}
+
 // Writes the text between the opening part of a trace and the files.
 fn write_middle<K: Sink>(
     alloc: Global,
@@ -44,7 +51,9 @@ fn write_middle<K: Sink>(
     ensures later { (K.seen out.old).faults ≤ (K.seen out.new).faults }
     ensures steady { UnlessEnded result ((K.seen out.new).faults ≡ (K.seen out.old).faults) }
 {
-    let mut text = Vec::new(alloc);
+    let Ok(mut text) = Vec::with_capacity(alloc, room_for_text(history)) else {
+        return Err(Ending::Memory);
+    };
     if middle(options, plan, history, &mut text).is_err() {
         return Err(Ending::Memory);
     }

@@ -12,7 +12,7 @@ use Rattle.vm_report.specs.vm_script.declared.plan.PlanLine.{PlanLine}
 use Rattle.vm_report.specs.vm_script.Counts.{parts, call_parts, entry_count}
 use Rattle.vm_report.specs.vm_script.FileNames.{call_with_file, act_with_file, line_with_file, with_files}
 use Rattle.vm_report.specs.vm_script.PlanSeen.{PlanSeen}
-use Rattle.vm_report.specs.vm_script.Rules.{broken_rule, has_wrong_frames, amounts_of, is_from_to, has_wrong_disk, lacks_disk, is_wrong_file}
+use Rattle.vm_report.specs.vm_script.Rules.{broken_rule, has_wrong_frames, amounts_of, is_from_to, has_wrong_disk, lacks_disk, is_wrong_file, broken_join}
 
 -- a call keeps its parts
 call-parts : (names : List (List ℕ)) (name : List ℕ) (c : Call) → call_parts (call_with_file names name c) ≡ call_parts c
@@ -56,4 +56,4 @@ rules-named names plan kept =
     else if list_any (λ l. is_wrong_file l.act) plan.setup then Some 6
     else if nat_lt 64 (length plan.parents) then Some 7
     else if nat_lt 1048576 n then Some 8
-    else None) (count-named names plan.lines) ∙ kept
+    else broken_join plan.setup) (count-named names plan.lines) ∙ kept

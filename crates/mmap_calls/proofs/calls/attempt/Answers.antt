@@ -1,6 +1,5 @@
-use Rattle.std.proofs.Common.{◌≡◌, ◌≤◌, ℕ, List, Option, ap, sym, subst, arith}
-use Rattle.std.specs.Prelude.{Result, IfOk}
-use Rattle.seg_vn.specs.anon_slots.Slots.{AnonSlotsSeen, count_at}
+use Rattle.std.proofs.Common.{ℕ, List, Option, ap, sym, subst, arith}
+use Rattle.seg_vn.specs.anon_slots.Slots.{count_at}
 use Rattle.seg_vn.specs.vm_types.declared.call.Call.{Call}
 use Rattle.seg_vn.specs.vm_world.Words.{memory}
 use Rattle.seg_vn.specs.vm_world.ZeroObjects.{KnowsZeros}
@@ -20,11 +19,11 @@ returns-in-Sync-clause-answer g c = subst (λ (x : Call). IsMappingAnswer x c.ar
 
 pub returns-in-Sync-clause-fall : goal.returns-in-Sync-clause-fall
 returns-in-Sync-clause-fall g c = λ slot.
-    let same = ap (λ (w : World g.row.D.Denot). count_at w.anon slot) c.sync.ensures.rest in
+    let same = ap (λ (w : World g.row.D.Denot). count_at w.anon slot) c.sync.ensures.makes.rest in
     omega (arith, same)
 
 pub returns-in-Sync-clause-zeros : goal.returns-in-Sync-clause-zeros
-returns-in-Sync-clause-zeros g c = subst (λ (zeros : List (Option ℕ)). KnowsZeros zeros c.args.spaces.now.spaces) (sym (ap (λ (w : World g.row.D.Denot). w.zeros) c.sync.ensures.rest)) c.requires.zeros
+returns-in-Sync-clause-zeros g c = subst (λ (zeros : List (Option ℕ)). KnowsZeros zeros c.args.spaces.now.spaces) (sym (ap (λ (w : World g.row.D.Denot). w.zeros) c.sync.ensures.makes.rest)) c.requires.zeros
 
 -- Else it changes mappings, and is done at once.
 pub change-requires-clause-served : goal.change-requires-clause-served

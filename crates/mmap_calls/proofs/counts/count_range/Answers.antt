@@ -4,7 +4,7 @@ use Rattle.seg_vn.specs.addr_space.Space.{Part, IsInOrder, part}
 use Rattle.seg_vn.proofs.addr_space.Totals.{total-within}
 use Rattle.seg_vn.specs.vm_world.declared.segment.Segment.{Segment}
 use Rattle.seg_vn.specs.vm_world.World.{world_seen}
-use Rattle.mmap_calls.specs.RangeCounts.{IsFewCounted, count_within, pages_within, slots_within}
+use Rattle.mmap_calls.specs.RangeCounts.{count_within, pages_within, slots_within}
 use Rattle.mmap_calls.proofs.PartsFrom.{sum_from, from-end, from-step, from-all, from-few}
 use Rattle.mmap_calls.proofs.Owns.{OwnsPages, owns}
 use Rattle.mmap_calls.proofs.Walked.{HasFew, pages-within, slots-within, objects-within, none-counted}

@@ -1,4 +1,4 @@
-use Rattle.std.proofs.Common.{◌+◌, ◌≤◌, arith}
+use Rattle.std.proofs.Common.{arith}
 use Rattle.seg_vn.specs.addr_space.Space.{part}
 use Rattle.seg_vn.proofs.addr_space.PartLemmas.{found-in}
 use Rattle.seg_vn.proofs.vm_world.Spots.{begun-there}

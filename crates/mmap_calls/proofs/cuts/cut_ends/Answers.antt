@@ -1,5 +1,5 @@
-use Rattle.std.proofs.Common.{◌≡◌, ℕ, ◌+◌, ◌-◌, ◌++◌, List, Option, Some, None, refl, sym, ap, ◌∙◌, subst, arith}
-use Rattle.std.specs.Prelude.{vec_capacity, replicate}
+use Rattle.std.proofs.Common.{◌-◌, List, refl, ap, ◌∙◌}
+use Rattle.std.specs.Prelude.{vec_capacity}
 use Rattle.std.specs.FinMap as finite
 use Rattle.seg_vn.specs.addr_space.Space.{Part}
 use Rattle.seg_vn.specs.anon_map.Maps.{free_numbers}

@@ -1,11 +1,9 @@
-use Rattle.std.proofs.Common.{◌≡◌, ℕ, ◌*◌, Bool, false, List, Option, Some, None, refl, sym, ap, ◌∙◌, subst, arith}
+use Rattle.std.proofs.Common.{◌≡◌, ℕ, ◌*◌, Some, None, sym, ◌∙◌, subst, arith}
 use Rattle.std.specs.FinMap as finite
 use Rattle.std.proofs.lemmas.Result.{IfOk-weaker}
 use Rattle.seg_vn.specs.addr_space.Space.{FindsGap}
 use Rattle.seg_vn.specs.vm_types.declared.call.Errno.TheVariants as errno
-use Rattle.seg_vn.specs.vm_types.declared.call.Reply.{Reply}
 use Rattle.seg_vn.specs.vm_world.Words.{memory}
-use Rattle.seg_vn.specs.vm_world.World.{world_seen}
 use Rattle.mmap_calls.specs.Answers.{AnswersAtOnce}
 use Rattle.mmap_calls.specs.Refusals.{map_any_call, map_call}
 use Rattle.mmap_calls.proofs.AtOnce.{refused-at-once}

@@ -1,4 +1,4 @@
-use Rattle.std.proofs.Common.{◌*◌, Option, Some, None, sym, subst, arith}
+use Rattle.std.proofs.Common.{◌*◌, Option, Some, sym, subst, arith}
 use Rattle.std.specs.FinMap as finite
 use Rattle.seg_vn.specs.vm_types.declared.call.Errno.{Errno}
 use Rattle.seg_vn.specs.vm_types.declared.call.Reply.TheVariants.{Mapped}

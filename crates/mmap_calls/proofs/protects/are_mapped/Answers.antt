@@ -1,4 +1,4 @@
-use Rattle.std.proofs.Common.{◌≡◌, ◌<◌, ◌≤◌, ◌+◌, ℕ, true, false, refl, ap, sym, ◌∙◌, arith}
+use Rattle.std.proofs.Common.{◌≡◌, true, false, refl, arith}
 use Rattle.std.specs.Prelude.{is_some}
 use Rattle.seg_vn.specs.addr_space.Space.{Part, part}
 use Rattle.seg_vn.specs.vm_world.declared.segment.Segment.{Segment}

@@ -1,9 +1,7 @@
-use Rattle.std.proofs.Common.{◌≡◌, ℕ, ◌+◌, ◌-◌, ◌<◌, ◌≤◌, true, List, Option, Some, None, refl, sym, ap, ◌∙◌, subst, arith}
-use Rattle.std.specs.Prelude.{option_map}
+use Rattle.std.proofs.Common.{◌≡◌, ℕ, ◌+◌, ◌-◌, List, refl, sym, ap, ◌∙◌, subst, arith}
 use Rattle.std.specs.FinMap as finite
-use Rattle.seg_vn.specs.vm_types.declared.prot.Prot.{Prot}
 use Rattle.seg_vn.specs.vm_types.Prot.{is_within}
-use Rattle.seg_vn.specs.addr_space.Space.{Part, part, part_at, with_new_piece, IsInOrder}
+use Rattle.seg_vn.specs.addr_space.Space.{Part, part, with_new_piece}
 use Rattle.seg_vn.specs.vm_world.Segments.{Spaces}
 use Rattle.seg_vn.specs.vm_world.Words.{memory}
 use Rattle.seg_vn.specs.vm_world.World.{world_seen}

@@ -1,7 +1,7 @@
-use Rattle.std.proofs.Common.{◌≡◌, Bool, true, false, refl, sym, ap, ◌∙◌}
+use Rattle.std.proofs.Common.{true, false, refl, sym, ap, ◌∙◌}
 use Rattle.seg_vn.specs.vm_types.Prot.{is_within}
 use Rattle.seg_vn.specs.vm_world.Words.{memory}
-use Rattle.mmap_calls.proofs.MapResults.{placed, refusal-told}
+use Rattle.mmap_calls.proofs.MapResults.{refusal-told}
 use Rattle.mmap_calls.proofs.refusals.new_mapping.Goals as goal
 
 pub returns-then-not-is_valid-clause-refused : goal.returns-then-not-is_valid-clause-refused

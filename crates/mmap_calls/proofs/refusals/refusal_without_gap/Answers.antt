@@ -1,13 +1,10 @@
-use Rattle.std.proofs.Common.{◌≡◌, ◌+◌, ◌≤◌, ℕ, Bool, true, false, cond, refl, sym, ap, ◌∙◌, arith}
-use Rattle.std.specs.Prelude.{nat_le}
+use Rattle.std.proofs.Common.{◌+◌, true, false, refl, sym, ap, ◌∙◌, arith}
 use Rattle.std.proofs.lemmas.Bool.{lt-leb, le-leb}
 use Rattle.seg_vn.specs.addr_space.Space.{page_total}
 use Rattle.seg_vn.proofs.addr_space.Totals.{total-within}
 use Rattle.seg_vn.specs.flat_model.Words.{pages_in}
 use Rattle.seg_vn.specs.vm_types.Prot.{is_within}
 use Rattle.seg_vn.specs.vm_world.Words.{memory}
-use Rattle.seg_vn.specs.vm_world.World.{world_seen}
-use Rattle.mmap_calls.specs.Refusals.{is_object_there, most_allowed}
 use Rattle.mmap_calls.proofs.GapMaps.{gapless}
 use Rattle.mmap_calls.proofs.refusals.refusal_without_gap.Goals as goal
 

@@ -1,5 +1,4 @@
-use Rattle.std.proofs.Common.{◌≡◌, ◌≤◌, ◌<◌, ◌+◌, ◌-◌, ℕ, refl, sym, ap, ◌∙◌, subst, arith}
-use Rattle.std.specs.Prelude.{min}
+use Rattle.std.proofs.Common.{◌-◌, arith}
 use Rattle.seg_vn.specs.addr_space.Space.{Part, part}
 use Rattle.seg_vn.specs.vm_world.World.{world_seen}
 use Rattle.seg_vn.specs.vm_world.declared.segment.Segment.{Segment}

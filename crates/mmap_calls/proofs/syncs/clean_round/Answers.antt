@@ -1,4 +1,4 @@
-use Rattle.std.proofs.Common.{◌≡◌, ◌≤◌, ◌<◌, ℕ, arith}
+use Rattle.std.proofs.Common.{arith}
 use Rattle.seg_vn.specs.vm_world.Words.{memory}
 use Rattle.seg_vn.proofs.seg_ops.RoomMade.{room-then}
 use Rattle.mmap_calls.proofs.CleanRanges.{alive-then, clean-then, round-cleaned}

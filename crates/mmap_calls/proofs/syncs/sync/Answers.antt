@@ -1,5 +1,4 @@
-use Rattle.std.proofs.Common.{◌≡◌, ◌≤◌, ◌<◌, ◌+◌, ℕ, true, false, List, Option, Some, None, refl, sym, ap, ◌∙◌, subst, arith}
-use Rattle.seg_vn.specs.page_store.declared.plan.Hold.{Hold}
+use Rattle.std.proofs.Common.{◌≡◌, ◌+◌, ℕ, true, false, sym, ap, ◌∙◌, subst}
 use Rattle.seg_vn.specs.vm_types.declared.call.Call.TheVariants.{Sync}
 use Rattle.seg_vn.specs.vm_types.declared.call.Errno.TheVariants as errno
 use Rattle.seg_vn.specs.vm_types.declared.call.Reply.TheVariants as reply
@@ -10,10 +9,11 @@ use Rattle.seg_vn.specs.vm_world.World.{world_seen}
 use Rattle.seg_vn.specs.vm_world.declared.world.World.{World}
 use Rattle.seg_vn.proofs.seg_ops.Composed.{keeps-same}
 use Rattle.seg_vn.proofs.seg_ops.Modified.{modifies-same}
+use Rattle.seg_vn.proofs.seg_ops.RoomMade.{room-same}
 use Rattle.seg_vn.specs.Serves.{Serves}
 use Rattle.seg_vn.specs.declared.attempt.Attempt.{Attempt}
 use Rattle.seg_vn.specs.declared.attempt.Attempt.TheVariants.{Done}
-use Rattle.mmap_calls.specs.Calls.{IsSyncAnswer, attempt_wanting}
+use Rattle.mmap_calls.specs.Calls.{IsSyncAnswer}
 use Rattle.mmap_calls.specs.Protections.{AreMapped}
 use Rattle.mmap_calls.specs.SyncRanges.{CleansRange}
 use Rattle.mmap_calls.proofs.SyncAnswers.{done-sync, first-sync, range-invalid, range-unmapped, range-valid, refused-sync, wanting-answer}
@@ -41,6 +41,9 @@ returns-then-not-is_range-clause-serves g c = λ calls.
     refused-sync w w spaces c.args.world.now.pending c.args.process c.args.addr c.args.length (keeps-same w spaces c.requires.fits) (modifies-same w) errno.Invalid
     (range-invalid spaces c.args.process c.args.addr c.args.length c.in-Some.space.now.parts (sym c.in-Some.ensures) (sym c.is_range.ensures.range ∙ c.if-not-is_range.true))
 
+pub returns-then-not-is_range-clause-makes : goal.returns-then-not-is_range-clause-makes
+returns-then-not-is_range-clause-makes g c = room-same c.args.world.now
+
 pub returns-then-not-are_mapped-clause-serves : goal.returns-then-not-are_mapped-clause-serves
 returns-then-not-are_mapped-clause-serves g c = λ calls.
     let d = (goal.at.returns-then-not-are_mapped-clause-serves g c).After-are_mapped in
@@ -48,6 +51,9 @@ returns-then-not-are_mapped-clause-serves g c = λ calls.
     let spaces = c.args.spaces.now.spaces in
     refused-sync w w spaces c.args.world.now.pending c.args.process c.args.addr c.args.length (keeps-same w spaces c.requires.fits) (modifies-same w) errno.NotMapped
     (range-unmapped spaces c.args.process c.args.addr c.args.length c.in-Some.space.now.parts (sym c.in-Some.ensures) (is-range g d) (λ all. (let z : true ≡ false = sym (c.are_mapped.ensures.1 (mapped-back g d all)) ∙ c.if-not-are_mapped.true in cc)))
+
+pub returns-then-not-are_mapped-clause-makes : goal.returns-then-not-are_mapped-clause-makes
+returns-then-not-are_mapped-clause-makes g c = room-same c.args.world.now
 
 pub clean_round-requires-clause-mapped : goal.clean_round-requires-clause-mapped
 clean_round-requires-clause-mapped g c = c.are_mapped.ensures.0 c.if-not-are_mapped.false
@@ -77,8 +83,8 @@ returns-in-None-clause-serves g c = λ calls.
     (done-sync old new spaces c.args.world.now.pending p c.args.addr c.args.length (c.clean_round.ensures.makes.keeps spaces c.requires.fits) c.clean_round.ensures.makes.modified
     (range-valid spaces p c.args.addr c.args.length c.in-Some.space.now.parts (sym c.in-Some.ensures) (is-range g d) all) c.args.from clean)
 
-pub returns-in-None-clause-rest : goal.returns-in-None-clause-rest
-returns-in-None-clause-rest g c = c.clean_round.ensures.makes.rest
+pub returns-in-None-clause-makes : goal.returns-in-None-clause-makes
+returns-in-None-clause-makes g c = c.clean_round.ensures.makes
 
 pub returns-in-Some-clean_round-clause-serves : goal.returns-in-Some-clean_round-clause-serves
 returns-in-Some-clean_round-clause-serves g c = λ calls.
@@ -100,5 +106,5 @@ returns-in-Some-clean_round-clause-serves g c = λ calls.
 pub returns-in-Some-clean_round-clause-answer : goal.returns-in-Some-clean_round-clause-answer
 returns-in-Some-clean_round-clause-answer g c = subst (IsSyncAnswer c.args.from) (sym c.wanting.ensures) (wanting-answer c.args.from c.in-Some-clean_round.wants)
 
-pub returns-in-Some-clean_round-clause-rest : goal.returns-in-Some-clean_round-clause-rest
-returns-in-Some-clean_round-clause-rest g c = c.clean_round.ensures.makes.rest
+pub returns-in-Some-clean_round-clause-makes : goal.returns-in-Some-clean_round-clause-makes
+returns-in-Some-clean_round-clause-makes g c = c.clean_round.ensures.makes

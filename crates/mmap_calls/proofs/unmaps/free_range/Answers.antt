@@ -1,7 +1,6 @@
 use Rattle.std.proofs.Common.{◌≡◌, ℕ, ◌+◌, ◌-◌, ap, subst, arith}
 use Rattle.std.specs.FinMap as finite
 use Rattle.seg_vn.specs.flat_model.Mapping.{without_pages}
-use Rattle.seg_vn.specs.vm_world.Segments.{Spaces}
 use Rattle.seg_vn.specs.vm_world.Words.{memory}
 use Rattle.seg_vn.specs.vm_world.World.{world_seen}
 use Rattle.seg_vn.specs.vm_world.declared.world.World.{World}

@@ -1,4 +1,4 @@
-use Rattle.std.proofs.Common.{◌≡◌, ℕ, ◌+◌, ◌<◌, inl, inr, subst, arith}
+use Rattle.std.proofs.Common.{rules, ◌≡◌, ℕ, ◌+◌, ◌<◌, inl, inr, subst, arith}
 use Rattle.std.proofs.lemmas.Bool.{cases_eq}
 use Rattle.fault_entry.specs.page_hash.declared.PageName.{PageName}
 use Rattle.fault_entry.specs.page_store.Bays.{pairs_seen}
@@ -6,7 +6,8 @@ use Rattle.fault_entry.specs.vnode_files.declared.vnode.FileInfo.{FileInfo}
 use Rattle.fault_entry.specs.vm_types.Pages.{pages_in}
 use Rattle.fault_entry.specs.vm_world.World.{file_name}
 use Rattle.vm_core.proofs.Records.{page-kept}
-use Rattle.vm_core.proofs.Fills.{writes-then, fills-then, one-name}
+use Rattle.vm_core.specs.Closing.{no_page}
+use Rattle.vm_core.proofs.Fills.{writes-then, fills-then, zeroed-then, fails-then, err-then, one-name}
 use Rattle.vm_core.proofs.blanks.fill_file.Goals as goal
 
 pub fill_page-requires-clause-page : goal.fill_page-requires-clause-page
@@ -19,6 +20,12 @@ pub returns-in_err-fill_page-clause-writes : goal.returns-in_err-fill_page-claus
 returns-in_err-fill_page-clause-writes g c = writes-then c.args.files.now c.loop-page.files c.fill_page.new.files (pairs_seen g.D.Disk.seen c.args.disks.now) (pairs_seen g.D.Disk.seen c.loop-page.disks) (pairs_seen g.D.Disk.seen c.fill_page.new.disks)
     c.loop-page.invariant.writes c.in_err-fill_page.ensures.writes
 
+pub returns-in_err-fill_page-clause-fault : goal.returns-in_err-fill_page-clause-fault
+returns-in_err-fill_page-clause-fault g c =
+    err-then c.from_residual.result _ _
+    (λ fault f. fails-then c.args.files.now c.loop-page.files (pairs_seen g.D.Disk.seen c.args.disks.now) (pairs_seen g.D.Disk.seen c.loop-page.disks) (pairs_seen g.D.Disk.seen c.fill_page.new.disks) (λ (n : PageName). (n.object ≡ c.args.file) × (n.page < c.loop-page.page)) fault c.loop-page.invariant.writes c.loop-page.invariant.fills c.loop-page.invariant.zeroed f)
+    (search rules)
+
 pub loop-page-preserved : goal.loop-page-preserved
 loop-page-preserved g c = record {
   writes = writes-then c.args.files.now c.loop-page.files c.fill_page.new.files (pairs_seen g.D.Disk.seen c.args.disks.now) (pairs_seen g.D.Disk.seen c.loop-page.disks) (pairs_seen g.D.Disk.seen c.fill_page.new.disks)
@@ -30,4 +37,6 @@ loop-page-preserved g c = record {
         | inl same ↦ inr (one-name n c.args.file c.loop-page.page is.0 same)
         | inr far ↦ let low = is.1 in inl (is.0, omega (arith, low, far))
       ]);
+  zeroed = zeroed-then c.args.files.now c.loop-page.files (pairs_seen g.D.Disk.seen c.args.disks.now) (pairs_seen g.D.Disk.seen c.loop-page.disks) (pairs_seen g.D.Disk.seen c.fill_page.new.disks) (λ (n : PageName). (n.object ≡ c.args.file) × (n.page < c.loop-page.page)) no_page no_page
+      c.loop-page.invariant.writes c.loop-page.invariant.fills c.loop-page.invariant.zeroed c.in_ok-fill_page.ensures.goes (λ n none. none);
 }

@@ -1,10 +1,11 @@
 use Rattle.std.proofs.Common.{◌<◌}
 use Rattle.fault_entry.specs.page_store.Bays.{pairs_seen}
-use Rattle.vm_core.specs.Closing.{WritesBlanks, FillsPages}
+use Rattle.vm_core.specs.Closing.{WritesBlanks, FillsPages, ZeroedOrStay, no_page}
 use Rattle.vm_core.proofs.blanks.fill_files.Given as goal
 
 abbrev pub invariant-loop-file : goal.invariant-loop-file
 invariant-loop-file g l = record {
   writes : WritesBlanks l.fn.files (pairs_seen g.D.Disk.seen l.fn.disks) l.files (pairs_seen g.D.Disk.seen l.disks);
   fills : FillsPages l.fn.files (pairs_seen g.D.Disk.seen l.fn.disks) l.files (pairs_seen g.D.Disk.seen l.disks) (λ n. n.object < l.file);
+  zeroed : ZeroedOrStay l.fn.files (pairs_seen g.D.Disk.seen l.fn.disks) (pairs_seen g.D.Disk.seen l.disks) no_page;
 }

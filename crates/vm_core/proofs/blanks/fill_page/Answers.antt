@@ -1,4 +1,4 @@
-use Rattle.std.proofs.Common.{◌≡◌, ℕ, ◌<◌, Result, sym, ap, ◌∙◌, subst}
+use Rattle.std.proofs.Common.{rules, ◌≡◌, ℕ, ◌<◌, Result, sym, ap, ◌∙◌, subst}
 use Rattle.fault_entry.specs.block_device.declared.disk_fault.DiskFault.{DiskFault}
 use Rattle.fault_entry.specs.page_store.Bays.{pairs_seen}
 use Rattle.fault_entry.specs.vnode_files.declared.vnode.FileInfo.{FileInfo}
@@ -7,8 +7,8 @@ use Rattle.fault_entry.specs.vnode_files.Layout.{disk_of_file, block_of_page}
 use Rattle.fault_entry.specs.page_hash.declared.PageName.{PageName}
 use Rattle.fault_entry.specs.vm_world.World.{file_name}
 use Rattle.vm_core.specs.Closing.{WritesZeros, WritesBlanks, FillsPages}
-use Rattle.vm_core.specs.Finish.{disk_at}
-use Rattle.vm_core.proofs.Fills.{block-within, length-seen, whole-seen, zeros-written, zeros-filled, page-filled}
+use Rattle.vm_core.specs.Finish.{disk_at, IsLastFault}
+use Rattle.vm_core.proofs.Fills.{block-within, length-seen, whole-seen, zeros-written, zeros-failed, zeros-filled, page-filled, page-zeroed, err-then}
 use Rattle.vm_core.proofs.blanks.fill_page.Goals as goal
 use Rattle.vm_core.proofs.blanks.fill_page.Given.{Over}
 use Rattle.vm_core.proofs.blanks.fill_page.Goals.{After-write_zeros}
@@ -50,3 +50,19 @@ returns-in_ok-write_zeros-clause-fills g c =
     subst (λ (G : FilesSeen). FillsPages c.args.files.now (pairs_seen g.D.Disk.seen c.args.disks.now) G (pairs_seen g.D.Disk.seen c.write_zeros.new.disks) (λ (n : PageName). n ≡ file_name c.args.file c.args.page)) (sym c.set_blank.ensures.new)
     (page-filled c.args.files.now (pairs_seen g.D.Disk.seen c.args.disks.now) (pairs_seen g.D.Disk.seen c.write_zeros.new.disks) c.args.file c.args.page c.requires.disks c.requires.page
     (whole-seen g.D.Disk.seen g.met.D.Disk.has_blocks c.args.disks.now) (sym c.blank.ensures ∙ c.if-blank.true) ok.at ok.within ok.on_disk ok.disk ok.new ok.writes.written)
+
+pub returns-in_err-write_zeros-clause-fault : goal.returns-in_err-write_zeros-clause-fault
+returns-in_err-write_zeros-clause-fault g c =
+    let at = (goal.at.returns-in_err-write_zeros-clause-fault g c).After-write_zeros in
+    err-then c.from_residual.result (λ (fault : DiskFault). (fault.disk ≡ c.info.result.now.disk) × IsLastFault (pairs_seen g.D.Disk.seen c.args.disks.now) (pairs_seen g.D.Disk.seen c.write_zeros.new.disks) fault) _
+    (λ fault f. zeros-failed c.args.files.now (pairs_seen g.D.Disk.seen c.args.disks.now) (pairs_seen g.D.Disk.seen c.write_zeros.new.disks) c.args.file c.args.page c.write_zeros.result fault c.requires.disks c.requires.page
+    (written g at) (f.0 ∙ ap (λ (i : FileInfo). i.disk) c.info.ensures.info) f.1)
+    (search rules)
+
+pub returns-in_ok-write_zeros-clause-goes : goal.returns-in_ok-write_zeros-clause-goes
+returns-in_ok-write_zeros-clause-goes g c =
+    let at = (goal.at.returns-in_ok-write_zeros-clause-goes g c).After-write_zeros in
+    let w = written g at in
+    let ok = subst (λ (r : Result (Unit {0}) DiskFault). WritesZeros (pairs_seen g.D.Disk.seen c.args.disks.now) (pairs_seen g.D.Disk.seen c.write_zeros.new.disks) (disk_of_file c.args.files.now c.args.file) (block_of_page c.args.files.now c.args.file c.args.page) r) c.in_ok-write_zeros.was w in
+    page-zeroed c.args.files.now (pairs_seen g.D.Disk.seen c.args.disks.now) (pairs_seen g.D.Disk.seen c.write_zeros.new.disks) c.args.file c.args.page c.requires.disks c.requires.page
+    (whole-seen g.D.Disk.seen g.met.D.Disk.has_blocks c.args.disks.now) (sym c.blank.ensures ∙ c.if-blank.true) ok.at ok.within ok.on_disk ok.disk ok.new ok.writes.written

@@ -1,6 +1,7 @@
 use Rattle.std.proofs.Common.{ℕ, ◌<◌, sym, ap, ◌∙◌, subst, slice_index_or, slice_set}
 use Rattle.fault_entry.specs.block_device.DiskSeen.{DiskSeen, Writes}
 use Rattle.fault_entry.specs.block_device.Faults.{IsFaultOf}
+use Rattle.fault_entry.specs.block_device.declared.disk_fault.DiskFault.{DiskFault}
 use Rattle.fault_entry.specs.core_arena.Bytes.{zeros}
 use Rattle.fault_entry.specs.page_store.Bays.{pairs_seen}
 use Rattle.vm_core.proofs.Fills.{number-seen, disk-seen, length-seen, pairs-set, last-fault, err-then}
@@ -36,6 +37,9 @@ returns-clause-fault g c =
     let at = c.place_of-at.result in
     let w = returns-clause-writes g c in
     err-then c.write_block.result _ _
-    (λ fault f. last-fault (pairs_seen seen xs) _ at c.args.number (seen c.write_block.new.disk) fault w.within w.on_disk w.new
-    (subst (λ (d : DiskSeen). IsFaultOf c.args.number d (seen c.write_block.new.disk) fault) (sym (disk-seen seen xs at c.index-disks-at.result c.place_of-at.ensures.within)) f))
+    (λ (fault : DiskFault) (f : IsFaultOf c.args.number _ (seen c.write_block.new.disk) fault). (
+      f.disk,
+      last-fault (pairs_seen seen xs) _ at c.args.number (seen c.write_block.new.disk) fault w.within w.on_disk w.new
+          (subst (λ (d : DiskSeen). IsFaultOf c.args.number d (seen c.write_block.new.disk) fault) (sym (disk-seen seen xs at c.index-disks-at.result c.place_of-at.ensures.within)) f),
+    ))
     c.write_block.ensures.fault

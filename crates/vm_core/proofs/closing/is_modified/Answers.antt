@@ -1,7 +1,7 @@
 use Rattle.std.proofs.Common.{sym, ap, ◌∙◌, inl}
 use Rattle.std.proofs.lemmas.Bool.{OnTrue_from}
 use Rattle.fault_entry.specs.vm_world.World.{world_seen}
-use Rattle.vm_core.proofs.Pushes.{pushes-refl, calm-pushes, skips-page, listed-clear, clear-of, gathers-page}
+use Rattle.vm_core.proofs.Pushes.{pushes-refl, goes-refl, calm-pushes, calm-goes, skips-page, listed-clear, clear-of, gathers-page}
 use Rattle.vm_core.proofs.closing.is_modified.Goals as goal
 
 pub returns-in_default-clause-stored : goal.returns-in_default-clause-stored
@@ -34,3 +34,13 @@ returns-clause-stored g c =
 
 pub returns-clause-pushes : goal.returns-clause-pushes
 returns-clause-pushes g c = λ spaces fits. calm-pushes (world_seen c.args.world.now) (world_seen c.gather_modified.new.world) spaces fits c.requires.noted (c.gather_modified.ensures.keeps spaces fits)
+
+pub returns-in_default-clause-goes : goal.returns-in_default-clause-goes
+returns-in_default-clause-goes g c = goes-refl (world_seen c.args.world.now)
+
+pub returns-then-listed-clause-goes : goal.returns-then-listed-clause-goes
+returns-then-listed-clause-goes g c = goes-refl (world_seen c.args.world.now)
+
+pub returns-clause-goes : goal.returns-clause-goes
+returns-clause-goes g c =
+    calm-goes (world_seen c.args.world.now) (world_seen c.gather_modified.new.world) (c.gather_modified.ensures.keeps c.requires.fits.0 c.requires.fits.1).bays (ap (λ w. w.files) c.gather_modified.ensures.rest)

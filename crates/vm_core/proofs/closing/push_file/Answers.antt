@@ -5,14 +5,16 @@ use Rattle.fault_entry.specs.vnode_files.declared.vnode.FileInfo.{FileInfo}
 use Rattle.fault_entry.specs.vm_types.Pages.{pages_in}
 use Rattle.fault_entry.specs.vm_world.World.{world_seen, file_name}
 use Rattle.vm_core.proofs.Records.{page-kept}
+use Rattle.vm_core.specs.Closing.{no_page}
 use Rattle.vm_core.proofs.Fills.{one-name, err-then}
-use Rattle.vm_core.proofs.Pushes.{records-of, pushes-refl, pushes-then, stores-none, stores-then, fault-later}
+use Rattle.vm_core.proofs.Pushes.{records-of, pushes-refl, pushes-then, stores-none, stores-then, goes-refl, goes-then, fails-later}
 use Rattle.vm_core.proofs.closing.push_file.Goals as goal
 
 pub loop-page-init : goal.loop-page-init
 loop-page-init g c = record {
   pushes = λ spaces fits. pushes-refl (world_seen c.args.world.now) spaces fits c.requires.noted;
   stores = stores-none (world_seen c.args.world.now) _ (λ n is. let low = is.1 in omega (arith, low));
+  goes = goes-refl (world_seen c.args.world.now);
 }
 
 pub push_if_modified-requires-clause-fits : goal.push_if_modified-requires-clause-fits
@@ -31,7 +33,7 @@ push_if_modified-requires-clause-page g c =
 pub returns-in_err-push_if_modified-clause-fault : goal.returns-in_err-push_if_modified-clause-fault
 returns-in_err-push_if_modified-clause-fault g c =
     err-then c.from_residual.result _ _
-    (λ fault f. fault-later (world_seen c.args.world.now) (world_seen c.loop-page.world) (world_seen c.push_if_modified.new.world) c.requires.fits.0 fault (c.loop-page.invariant.pushes c.requires.fits.0 c.requires.fits.1) f)
+    (λ fault f. fails-later (world_seen c.args.world.now) (world_seen c.loop-page.world) (world_seen c.push_if_modified.new.world) c.requires.fits.0 fault (c.loop-page.invariant.pushes c.requires.fits.0 c.requires.fits.1) c.loop-page.invariant.goes f)
     (search rules)
 
 pub returns-in_err-push_if_modified-clause-pushes : goal.returns-in_err-push_if_modified-clause-pushes
@@ -51,4 +53,6 @@ loop-page-preserved g c = record {
         | inl same ↦ inr (one-name n c.args.file c.loop-page.page is.0 same)
         | inr far ↦ let low = is.1 in inl (is.0, omega (arith, low, far))
       ]);
+  goes = goes-then (world_seen c.args.world.now) (world_seen c.loop-page.world) (world_seen c.push_if_modified.new.world) c.requires.fits.0 no_page no_page
+      (c.loop-page.invariant.pushes c.requires.fits.0 c.requires.fits.1) c.loop-page.invariant.goes c.in_ok-push_if_modified.ensures.goes (λ n none. none);
 }

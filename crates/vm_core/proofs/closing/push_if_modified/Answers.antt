@@ -1,9 +1,10 @@
 use Rattle.std.proofs.Common.{◌≡◌, false, inl, inr}
 use Rattle.fault_entry.specs.page_hash.declared.PageName.{PageName}
 use Rattle.fault_entry.specs.vm_world.World.{world_seen}
+use Rattle.vm_core.specs.Closing.{no_page}
 use Rattle.vm_core.proofs.Records.{page-kept}
 use Rattle.vm_core.proofs.Fills.{err-then}
-use Rattle.vm_core.proofs.Pushes.{records-of, pushes-then, stores-then, fault-later, ok-more}
+use Rattle.vm_core.proofs.Pushes.{records-of, pushes-then, stores-then, goes-then, fails-later, ok-more}
 use Rattle.vm_core.proofs.closing.push_if_modified.Goals as goal
 
 pub push_page-requires-clause-page : goal.push_page-requires-clause-page
@@ -11,6 +12,9 @@ push_page-requires-clause-page g c = page-kept c.args.world.now.files c.is_modif
 
 pub push_page-requires-clause-fits : goal.push_page-requires-clause-fits
 push_page-requires-clause-fits g c = (c.requires.fits.0, (c.is_modified.ensures.pushes c.requires.fits.0 c.requires.fits.1).memory)
+
+pub push_page-requires-clause-noted : goal.push_page-requires-clause-noted
+push_page-requires-clause-noted g c = (c.is_modified.ensures.pushes c.requires.fits.0 c.requires.fits.1).notes
 
 pub returns-then-is_modified-clause-stored : goal.returns-then-is_modified-clause-stored
 returns-then-is_modified-clause-stored g c =
@@ -20,10 +24,17 @@ returns-then-is_modified-clause-stored g c =
     (c.is_modified.ensures.pushes c.requires.fits.0 c.requires.fits.1) c.is_modified.ensures.stored second (λ n page same. inr same))
     c.push_page.ensures.stored
 
+pub returns-then-is_modified-clause-goes : goal.returns-then-is_modified-clause-goes
+returns-then-is_modified-clause-goes g c =
+    ok-more c.push_page.result _ _
+    (λ second. goes-then (world_seen c.args.world.now) (world_seen c.is_modified.new.world) (world_seen c.push_page.new.world) c.requires.fits.0 no_page no_page
+    (c.is_modified.ensures.pushes c.requires.fits.0 c.requires.fits.1) c.is_modified.ensures.goes second (λ n none. none))
+    c.push_page.ensures.goes
+
 pub returns-then-is_modified-clause-fault : goal.returns-then-is_modified-clause-fault
 returns-then-is_modified-clause-fault g c =
     err-then c.push_page.result _ _
-    (λ fault f. fault-later (world_seen c.args.world.now) (world_seen c.is_modified.new.world) (world_seen c.push_page.new.world) c.requires.fits.0 fault (c.is_modified.ensures.pushes c.requires.fits.0 c.requires.fits.1) f)
+    (λ fault f. fails-later (world_seen c.args.world.now) (world_seen c.is_modified.new.world) (world_seen c.push_page.new.world) c.requires.fits.0 fault (c.is_modified.ensures.pushes c.requires.fits.0 c.requires.fits.1) c.is_modified.ensures.goes f)
     c.push_page.ensures.fault
 
 pub returns-then-is_modified-clause-pushes : goal.returns-then-is_modified-clause-pushes

@@ -1,7 +1,7 @@
 use Rattle.std.proofs.Common.{ap}
 use Rattle.fault_entry.specs.vm_world.World.{world_seen}
 use Rattle.vm_core.proofs.Finishes.{ready-to-push}
-use Rattle.vm_core.proofs.OnePush.{IsPush, push-pushes, push-stores, push-fault}
+use Rattle.vm_core.proofs.OnePush.{IsPush, push-pushes, push-stores, push-goes, push-fails}
 use Rattle.vm_core.proofs.closing.push_page.Goals as goal
 use Rattle.vm_core.proofs.closing.push_page.Given.{Over}
 use Rattle.vm_core.proofs.closing.push_page.Goals.{After-end_flight}
@@ -26,6 +26,11 @@ returns-in-Ok-clause-stored g c =
     push-stores (world_seen c.args.world.now) (world_seen c.begin_push-flight.new.world) (world_seen c.end_flight.new.world) c.requires.fits.0 c.args.name c.begin_push-flight.result c.perform-result.new.self
     c.requires.fits.1 c.requires.noted c.requires.page (is g (goal.at.returns-in-Ok-clause-stored g c).After-end_flight) c.in-Ok.ensures.outcome c.requires.dirty.frame c.requires.dirty.home
 
+pub returns-in-Ok-clause-goes : goal.returns-in-Ok-clause-goes
+returns-in-Ok-clause-goes g c =
+    push-goes (world_seen c.args.world.now) (world_seen c.begin_push-flight.new.world) (world_seen c.end_flight.new.world) c.requires.fits.0 c.args.name c.begin_push-flight.result c.perform-result.new.self
+    c.requires.fits.1 c.requires.noted c.requires.page (is g (goal.at.returns-in-Ok-clause-goes g c).After-end_flight) c.in-Ok.ensures.outcome c.requires.dirty.frame c.requires.dirty.home
+
 pub returns-in-Ok-clause-pushes : goal.returns-in-Ok-clause-pushes
 returns-in-Ok-clause-pushes g c = λ spaces fits.
     push-pushes (world_seen c.args.world.now) (world_seen c.begin_push-flight.new.world) (world_seen c.end_flight.new.world) spaces c.args.name c.begin_push-flight.result c.perform-result.new.self
@@ -33,7 +38,7 @@ returns-in-Ok-clause-pushes g c = λ spaces fits.
 
 pub returns-in-Err-clause-fault : goal.returns-in-Err-clause-fault
 returns-in-Err-clause-fault g c =
-    push-fault (world_seen c.args.world.now) (world_seen c.begin_push-flight.new.world) (world_seen c.end_flight.new.world) c.requires.fits.0 c.args.name c.begin_push-flight.result c.perform-result.new.self
+    push-fails (world_seen c.args.world.now) (world_seen c.begin_push-flight.new.world) (world_seen c.end_flight.new.world) c.requires.fits.0 c.args.name c.begin_push-flight.result c.perform-result.new.self
     c.requires.fits.1 c.requires.noted c.requires.page (is g (goal.at.returns-in-Err-clause-fault g c).After-end_flight) _ c.counts-disk.ensures.number c.counts-disk.ensures.before c.counts-disk.ensures.after
 
 pub returns-in-Err-clause-pushes : goal.returns-in-Err-clause-pushes

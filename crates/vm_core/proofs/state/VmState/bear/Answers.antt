@@ -38,19 +38,26 @@ before g c = record { world = world_seen c.self.inside.world; spaces = c.self.in
 abbrev after : (g : Over) (c : After-fork g) → Memory
 after g c = record { world = world_seen c.fork.new.world; spaces = c.fork.new.spaces.spaces }
 
+-- a Fork leaves the store and the pending tails as they were
+same-store : (g : Over) (c : After-fork g) → c.fork.new.world.store ≡ c.self.inside.world.store
+same-store g c = ap (λ w. w.store) {y = record c.self.inside.world { anon = c.fork.new.world.anon; maps = c.fork.new.world.maps; hat = c.fork.new.world.hat }} c.fork.ensures.rest
+
+same-tails : (g : Over) (c : After-fork g) → c.fork.new.world.pending ≡ c.self.inside.world.pending
+same-tails g c = ap (λ w. w.pending) {y = record c.self.inside.world { anon = c.fork.new.world.anon; maps = c.fork.new.world.maps; hat = c.fork.new.world.hat }} c.fork.ensures.rest
+
 pub note_birth-requires : goal.note_birth-requires
 note_birth-requires g c = let k = placed g (goal.at.note_birth-requires g c).After-fork in record { first = k.first; marks = k.mark; seats = k.seat }
 
 pub invariant_of-self : goal.invariant_of-self
 invariant_of-self g c =
     let p = (goal.at.invariant_of-self g c).After-fork in
-    kept-forked (before g p) (after g p) c.self.inside.world.zeros c.fork.new.world.zeros _ c.self.inside.parents.items c.self.inside.spaces.processes (length c.self.inside.born.items) (length c.self.inside.syncs) c.fork.new.spaces.processes (length c.self.inside.born.items) (length c.self.inside.syncs) c.self.invariant c.fork.ensures.zeros (ap (λ w. w.store) c.fork.ensures.rest)
+    kept-forked (before g p) (after g p) c.self.inside.world.zeros c.fork.new.world.zeros _ c.self.inside.parents.items c.self.inside.spaces.processes (length c.self.inside.born.items) (length c.self.inside.syncs) c.fork.new.spaces.processes (length c.self.inside.born.items) (length c.self.inside.syncs) c.self.invariant c.fork.ensures.zeros (same-store g p)
     c.fork.ensures.processes refl refl
 
 pub invariant_of-self-2 : goal.invariant_of-self-2
 invariant_of-self-2 g c =
     let p = (goal.at.invariant_of-self-2 g c).After-fork in
-    kept-forked (before g p) (after g p) c.self.inside.world.zeros c.fork.new.world.zeros _ c.self.inside.parents.items c.self.inside.spaces.processes (length c.self.inside.born.items) (length c.self.inside.syncs) c.fork.new.spaces.processes (length c.note_birth.new.born.items) (length c.note_birth.new.syncs) c.self.invariant c.fork.ensures.zeros (ap (λ w. w.store) c.fork.ensures.rest)
+    kept-forked (before g p) (after g p) c.self.inside.world.zeros c.fork.new.world.zeros _ c.self.inside.parents.items c.self.inside.spaces.processes (length c.self.inside.born.items) (length c.self.inside.syncs) c.fork.new.spaces.processes (length c.note_birth.new.born.items) (length c.note_birth.new.syncs) c.self.invariant c.fork.ensures.zeros (same-store g p)
     c.fork.ensures.processes c.note_birth.ensures.marks (ap (λ (l : List (Option ℕ)). length l) c.note_birth.ensures.syncs ∙ count-starts c.self.inside.syncs c.args.child c.in_ok-reply.reply)
 
 modified : (g : Over) (c : After-fork g) → ModifiesNone c.args.self.now.memory.world (after g c).world
@@ -67,7 +74,7 @@ returns g c =
       counted = subst (λ (s : KernelState). IsCountedFork s.memory (after g p).world.anon.counts c.args.process c.in_ok-reply.reply) c.self.view_is c.in_ok-reply.ensures.counted;
       modified = modified g p;
       placed = seated g p;
-      rest = forked-as _ c.args.self.now (after g p) c.args.child c.fork.new.world.pending c.in_ok-reply.reply _ c.note_birth.new.syncs c.self.view_is c.note_birth.ensures.born (ap (λ w. w.pending) c.fork.ensures.rest) c.note_birth.ensures.syncs;
+      rest = forked-as _ c.args.self.now (after g p) c.args.child c.fork.new.world.pending c.in_ok-reply.reply _ c.note_birth.new.syncs c.self.view_is c.note_birth.ensures.born (same-tails g p) c.note_birth.ensures.syncs;
       err = tt;
     }
 

@@ -1,12 +1,12 @@
 use Rattle.std.proofs.Common.{◌≡◌, None, sym, ap, ◌∙◌, subst}
-use Rattle.std.specs.Prelude.{IfNone, option_map}
+use Rattle.std.specs.Prelude.{IfNone, IfSome, option_map}
 use Rattle.fault_entry.specs.page_store.Bays.{bay_at, home_faults, pairs_seen}
 use Rattle.fault_entry.specs.page_store.Notes.{no_notes}
 use Rattle.fault_entry.specs.vm_world.MemoryFits.{MemoryFits}
 use Rattle.fault_entry.specs.vm_world.NotesFit.{NotesFit}
 use Rattle.fault_entry.specs.vm_world.State.{KernelState, Seats, notes_of}
 use Rattle.fault_entry.specs.vm_world.World.{World, AllTell}
-use Rattle.vm_core.specs.Finish.{HoldAllFiles}
+use Rattle.vm_core.specs.Finish.{disks_of, HoldAllFiles, LeaveAllPages}
 use Rattle.vm_core.proofs.state.VmState.finish.Goals as goal
 
 -- no seat's note, where no seat has anything outside
@@ -27,3 +27,8 @@ returns-clause-counts g c = λ disk. c.finish_world.ensures.counts disk ∙ ap (
 pub returns-clause-closed : goal.returns-clause-closed
 returns-clause-closed g c =
     subst (λ (s : KernelState). IfNone c.finish_world.result.fault (AllTell s.memory.world no_notes → HoldAllFiles s.memory.world (pairs_seen g.D.Disk.seen c.finish_world.result.disks.items))) c.self.view_is c.finish_world.ensures.closed
+
+pub returns-clause-left : goal.returns-clause-left
+returns-clause-left g c =
+    subst (λ (s : KernelState). IfSome c.finish_world.result.fault (λ fault. AllTell s.memory.world no_notes → LeaveAllPages s.memory.world (disks_of s.memory.world) (pairs_seen g.D.Disk.seen c.finish_world.result.disks.items) fault.disk))
+    c.self.view_is c.finish_world.ensures.left

@@ -1,6 +1,5 @@
-use Rattle.std.proofs.Common.{◌≤◌, ℕ, [], sym, ap, subst, ◌∙◌, length}
+use Rattle.std.proofs.Common.{ℕ, [], sym, ap, subst, ◌∙◌, length}
 use Rattle.std.specs.Prelude.{IfOk}
-use Rattle.fault_entry.specs.anon_slots.Slots.{count_at}
 use Rattle.fault_entry.proofs.flat_model.Maps.{on_err_any}
 use Rattle.fault_entry.specs.seg_vn.Serves.{Serves}
 use Rattle.fault_entry.specs.vm_world.CallSteps.{StaysAlive}
@@ -9,7 +8,7 @@ use Rattle.fault_entry.specs.vm_world.MemoryFits.{MemoryFits}
 use Rattle.fault_entry.specs.vm_world.Segments.{Spaces}
 use Rattle.fault_entry.specs.vm_world.State.{KernelState}
 use Rattle.fault_entry.specs.vm_world.World.{world_seen}
-use Rattle.vm_core.specs.Calls.{IsOwnReply, IsShownAfterCall, SlotsAfterCall, IsHitAfterCall, TakesMemory}
+use Rattle.vm_core.specs.Calls.{IsOwnReply, TakesMemory}
 use Rattle.vm_core.specs.State.{EachHasPlaces}
 use Rattle.vm_core.proofs.Served.{AfterMapping, after-mapping, changing-is, mapping-memory, mapped-own, ok-then, ok-always, err-then, kept-result, same-again}
 use Rattle.vm_core.proofs.state.VmState.map.Given.{Over}
