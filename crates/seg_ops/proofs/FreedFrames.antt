@@ -18,14 +18,14 @@ use Rattle.page_store.specs.Moves.{is_only, family_of}
 use Rattle.page_store.specs.Notes.{Note, Notes}
 use Rattle.page_store.specs.Parts.{rows_without}
 use Rattle.page_store.specs.Seen.{StoreSeen, IsListedFrame, own_frame, residence}
-use Rattle.page_store.specs.Steps.{next_frame, next_name, name_in, after_abort, at_frame, with_page_given_up, without_snapshot}
+use Rattle.page_store.specs.Steps.{next_frame, next_name, name_in, home_bytes, after_abort, at_frame, with_page_given_up, without_snapshot}
 use Rattle.page_store.specs.StoreFits.{StoreFits, IsClean}
 use Rattle.page_store.specs.Transfers.{is_rewritten_in}
 use Rattle.page_store.specs.Value.{value_in, backing_value, tells}
 use Rattle.page_store.specs.declared.place.Place.{Place}
 use Rattle.page_store.specs.declared.residence.Residence.TheVariants.{Home, Absent}
 use Rattle.page_store.proofs.FrameLaws.{home-unsourced}
-use Rattle.page_store.proofs.QueryLemmas.{absent-is, some-within}
+use Rattle.page_store.proofs.QueryLemmas.{absent-is, home-is, some-within}
 use Rattle.vm_world.specs.hat_layer.declared.translation.Translation.{Translation}
 use Rattle.vm_world.specs.flat_model.Words.{Page}
 use Rattle.vm_world.specs.FramesFit.{DisksFit}
@@ -38,6 +38,8 @@ use Rattle.vm_world.specs.TranslationsFit.{HasWritten, IsModified}
 use Rattle.vm_world.specs.World.{World, core_of, world_table, slot_name, is_page_name}
 use Rattle.vm_world.specs.WorldSteps.{WorldStep, stays, cut_page}
 use Rattle.vm_world.proofs.FrameRule.{exists-page}
+use Rattle.seg_ops.specs.Copies.{HasBytes, IsKnownLater, bytes_kept}
+use Rattle.seg_ops.proofs.KeptBytes.{home-has, uncut, unlisted-kept, lost-has}
 use Rattle.seg_ops.proofs.Fills.{Elsewhere, next-listed, held-by, away-home, own-apart, rewritten-same, was-taken}
 use Rattle.seg_ops.proofs.FillSteps.{home-value, next-whole}
 use Rattle.seg_ops.proofs.Marks.{cases-name}
@@ -265,6 +267,14 @@ frees-first w spaces new n frame f k = ap next_frame k.done ∙ by_free w.store.
         let free : Contains w.store.free frame = subst (λ (l : List ℕ). Contains l frame) (sym e) (Contains-first x frame xs first) in
         let z : Some n ≡ None = sym k.named ∙ f.frames.sound.unnamed frame free in cc)
 
+-- a page that stays home elsewhere has the bytes that it had
+elsewhere-has : (w : World) (spaces : Spaces) (new : StoreSeen) (n page : PageName) (frame g : ℕ) → MemoryFits (memory_of w spaces) → Frees w.store new n frame → g ≢ frame → residence w.store page ≡ Home g → ¬ IsListedFrame w.store g → HasBytes (with_tables w new w.hat) page (bytes_kept w page)
+elsewhere-has w spaces new n page frame g f k apart home unlisted = λ notes now tell.
+    let after = stays-elsewhere w spaces new n page frame g f k apart home in
+    home-has (with_tables w new w.hat) spaces page g (freed-memory w spaces new n frame f k) after notes
+    ∙ ap (home_bytes new) (home-is new page g after).found ∙ ap (λ (b : Option (List ℕ)). unwrap_or b []) (k.elsewhere g apart).bytes
+    ∙ sym (ap (home_bytes w.store) (home-is w.store page g home).found) ∙ sym (unlisted-kept w spaces page g f home unlisted)
+
 -- WHAT HOLDS OF THE WORLD once the next frame was freed, where it held a page.
 pub record IsFreed (w : World) (new : StoreSeen) (spaces : Spaces) : Type 0 where
   pub same : next_frame new ≡ next_frame w.store
@@ -274,6 +284,7 @@ pub record IsFreed (w : World) (new : StoreSeen) (spaces : Spaces) : Type 0 wher
   pub absent : (page : PageName) → residence w.store page ≡ Absent → residence new page ≡ Absent
   pub lists : (frame : ℕ) → IsListedFrame new frame → IsListedFrame w.store frame
   pub step : WorldStep w (with_tables w new w.hat) spaces stays (is_name (next_name w.store))
+  pub bytes : (known : Notes) (page : PageName) (frame : ℕ) → NotesFit w known → residence w.store page ≡ Home frame → IsKnownLater w page frame → HasBytes (with_tables w new w.hat) page (bytes_kept w page)
 
 nothing-lost : (w : World) (spaces : Spaces) → MemoryFits (memory_of w spaces) → next_name w.store ≡ None → WorldStep w w spaces stays (is_name (next_name w.store))
 nothing-lost w spaces f e = record {
@@ -297,6 +308,7 @@ freed w spaces new None f e done laws = subst (λ (s : StoreSeen). IsFreed w s s
   absent = λ page none. none;
   lists = λ frame l. l;
   step = nothing-lost w spaces f (sym e);
+  bytes = λ known page frame nf home later notes now tell. home-has w spaces page frame f home notes ∙ sym (uncut w spaces page frame f home (ap (λ (o : Option PageName). is_name o page) (sym e)));
 })
 freed w spaces new (Some n) f e done laws = by_frame (next_frame w.store) refl
   where
@@ -317,4 +329,11 @@ freed w spaces new (Some n) f e done laws = by_frame (next_frame w.store) refl
           ];
           lists = λ g l. still-free w.store new n frame g k l;
           step = frees-step w spaces new n frame f k;
+          bytes = λ known page g nf home later. elim later [
+            | inl unlisted ↦ elsewhere-has w spaces new n page frame g f k (λ same. unlisted (subst (λ (j : ℕ). IsListedFrame w.store j) (sym same) (next-listed w.store frame next))) home unlisted
+            | inr its ↦
+                let same : frame ≡ g = let z : Some frame ≡ Some g = sym next ∙ its.0 in cc in
+                let is : n ≡ page = let z : Some n ≡ Some page = sym named ∙ ap (name_at w.store.names) same ∙ held-by w.store page g home in cc in
+                lost-has w spaces page g f home known new nf its.0 its.1 k.laws.sound k.laws.outside.bays (ap (residence new) (sym is) ∙ k.laws.absent)
+          ];
         }

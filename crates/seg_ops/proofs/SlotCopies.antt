@@ -1,13 +1,11 @@
 -- A PLACE GETS A COPY of the page of its slot, which other places hold too: flat memory stays as it was.
-use Rattle.std.proofs.Common.{◌≡◌, ℕ, ◌<◌, Bool, Option, Some, length, ap, ◌∙◌}
+use Rattle.std.proofs.Common.{◌≡◌, ℕ, ◌<◌, Bool, Option, Some, length, sym, ap, ◌∙◌}
 use Rattle.std.specs.Prelude.{IsTrue, option_map, option_and_then}
 use Rattle.std.specs.Option.{option_or}
 use Rattle.page_store.specs.core_arena.Bytes.{zeros}
-use Rattle.page_store.specs.page_hash.Names.{find}
 use Rattle.page_store.specs.Notes.{Notes}
 use Rattle.page_store.specs.Seen.{residence}
-use Rattle.page_store.specs.Steps.{home_bytes}
-use Rattle.page_store.specs.declared.residence.Residence.TheVariants.{Home, Absent}
+use Rattle.page_store.specs.declared.residence.Residence.TheVariants.{Absent}
 use Rattle.page_store.specs.Value.{value}
 use Rattle.page_store.proofs.QueryLemmas.{absent-is}
 use Rattle.vm_world.specs.flat_model.Flat.{Flat}
@@ -16,28 +14,29 @@ use Rattle.vm_world.specs.flat_model.Words.{Page}
 use Rattle.vm_world.specs.CallSteps.{ChangesMemory}
 use Rattle.vm_world.specs.FlatMemory.{cell_of, own_without_slot, flat_memory}
 use Rattle.vm_world.specs.MemoryFits.{MemoryFits}
+use Rattle.vm_world.specs.NotesFit.{NotesFit}
 use Rattle.vm_world.specs.Pages.{page_value, contents_of}
 use Rattle.vm_world.specs.Segments.{Spot, Spaces, spot_at}
-use Rattle.vm_world.specs.World.{World, slot_in, slot_name, world_table, is_unpushed}
+use Rattle.vm_world.specs.World.{World, slot_in, slot_name, world_table, is_unpushed, AllTell}
 use Rattle.vm_world.proofs.CallSteps.{call_rule}
 use Rattle.vm_world.proofs.Counts.{held-used, used-below}
 use Rattle.vm_world.proofs.Maps.{cell-at}
 use Rattle.vm_world.proofs.PageNames.{slot-page}
+use Rattle.seg_ops.specs.Copies.{HasBytes}
 use Rattle.seg_ops.specs.OwnPages.{without_own_page}
 use Rattle.seg_ops.specs.Slots.{OwnsAlone, with_own_page}
 use Rattle.seg_ops.proofs.Fills.{blank-is}
 use Rattle.seg_ops.proofs.FillSteps.{absent-zeros}
 use Rattle.seg_ops.proofs.OwnPages.{flat-unheld, own-back}
-use Rattle.seg_ops.proofs.SlotMemory.{home-value_bytes}
 use Rattle.seg_ops.proofs.StillSteps.{memory_of, value-is}
 use Rattle.std.specs.FinSet as set
 use Rattle.std.specs.Ordering.{nat_cmp}
 
-module _ (w : World) (spaces : Spaces) (p q : ℕ) (x : Spot) (bytes : Page) (here : spot_at spaces p q ≡ Some x) (own : (notes : Notes) → (cell_of (contents_of w notes).place x).own ≡ Some bytes) where
-  copied-back : (notes : Notes) (born : set.FinSet nat_cmp) → with_own_page (without_own_page (flat_memory (memory_of w spaces) born notes) p q) p q bytes ≡ flat_memory (memory_of w spaces) born notes
-  copied-back notes born =
+module _ (w : World) (spaces : Spaces) (p q : ℕ) (x : Spot) (bytes : Page) (here : spot_at spaces p q ≡ Some x) (own : (notes : Notes) → NotesFit w notes → AllTell w notes → (cell_of (contents_of w notes).place x).own ≡ Some bytes) where
+  copied-back : (notes : Notes) (born : set.FinSet nat_cmp) → NotesFit w notes → AllTell w notes → with_own_page (without_own_page (flat_memory (memory_of w spaces) born notes) p q) p q bytes ≡ flat_memory (memory_of w spaces) born notes
+  copied-back notes born nf tell =
       own-back (flat_memory (memory_of w spaces) born notes) p q (cell_of (contents_of w notes).place x) bytes
-      (cell-at (contents_of w notes).place spaces p q ∙ ap (option_map (cell_of (contents_of w notes).place)) here) (own notes)
+      (cell-at (contents_of w notes).place spaces p q ∙ ap (option_map (cell_of (contents_of w notes).place)) here) (own notes nf tell)
 
   -- THE PLACE IS EMPTIED, and then gets the bytes that it had.
   pub changes-again : (mid new : World) (lost : ℕ → Bool) → ChangesMemory p (memory_of w spaces) (memory_of mid spaces) (λ F G. G ≡ without_own_page F p q)
@@ -51,7 +50,7 @@ module _ (w : World) (spaces : Spaces) (p q : ℕ) (x : Spot) (bytes : Page) (he
         memory = j.memory;
         notes = j.notes;
         tells = j.tells;
-        flat = λ born notes nf tell is. j.flat born notes nf tell is ∙ ap (λ (G : Flat). tails_cleared G lost) (copied-back notes born);
+        flat = λ born notes nf tell is. j.flat born notes nf tell is ∙ ap (λ (G : Flat). tails_cleared G lost) (copied-back notes born nf tell);
       }
 
 module _ (w : World) (spaces : Spaces) (p q m i s : ℕ) (x : Spot) (f : MemoryFits (memory_of w spaces)) (holds : slot_in w.maps m i ≡ Some s) (owns : OwnsAlone spaces p q m i x) where
@@ -67,11 +66,11 @@ module _ (w : World) (spaces : Spaces) (p q m i s : ℕ) (x : Spot) (f : MemoryF
       ∙ ap (λ (o : Option ℕ). option_or (option_map (λ t. page_value w notes (slot_name t)) o) (own_without_slot x.0.object)) holds
       ∙ ap (λ (b : Page). Some b) (value-is w notes (slot_name s) (slot-page w.files w.anon s slot-there))
 
-  -- which is that in its frame, or zeros where no frame holds it and it was never pushed
-  pub own-home : (frame : ℕ) → residence w.store (slot_name s) ≡ Home frame → (notes : Notes) → (cell_of (contents_of w notes).place x).own ≡ Some (home_bytes w.store (find w.store.names (slot_name s)))
-  own-home frame home notes = own-value notes ∙ ap (λ (b : Page). Some b) (home-value_bytes w.store notes (world_table w) (slot_name s) frame home)
+  -- which are the bytes that it is known to have, or zeros where no frame holds it and it was never pushed
+  pub own-bytes : (bytes : Page) → HasBytes w (slot_name s) bytes → (notes : Notes) → NotesFit w notes → AllTell w notes → (cell_of (contents_of w notes).place x).own ≡ Some bytes
+  own-bytes bytes has notes nf tell = own-value notes ∙ ap (λ (b : Page). Some b) (sym (value-is w notes (slot_name s) (slot-page w.files w.anon s slot-there)) ∙ has notes nf tell)
 
-  pub own-blank : residence w.store (slot_name s) ≡ Absent → IsTrue (is_unpushed w.files w.anon (slot_name s)) → (notes : Notes) → (cell_of (contents_of w notes).place x).own ≡ Some zeros
-  own-blank absent unpushed notes =
+  pub own-blank : residence w.store (slot_name s) ≡ Absent → IsTrue (is_unpushed w.files w.anon (slot_name s)) → (notes : Notes) → NotesFit w notes → AllTell w notes → (cell_of (contents_of w notes).place x).own ≡ Some zeros
+  own-blank absent unpushed notes nf tell =
       own-value notes
       ∙ ap (λ (b : Page). Some b) (absent-zeros w.store notes (world_table w) (slot_name s) (absent-is w.store (slot_name s) f.frames.sound absent) (blank-is w (slot_name s) f.files (slot-page w.files w.anon s slot-there) ∙ unpushed))

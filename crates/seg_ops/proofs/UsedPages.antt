@@ -67,6 +67,12 @@ gathered-use s mid frame told lt is =
     let row : Row = with_bits (row_at s.rows frame) ((row_at s.rows frame).referenced || told.0) ((row_at s.rows frame).modified || told.1) in
     ap (λ (t : StoreSeen). (row_at t.rows frame).referenced) is ∙ ap (λ (r : Row). r.referenced) (get_or-set_same s.rows frame row clear_row lt)
 
+-- and what was written
+pub gathered-written : (s mid : StoreSeen) (frame : ℕ) (told : Bool × Bool) → frame < length s.rows → mid ≡ with_bits_gathered s frame told → (row_at mid.rows frame).modified ≡ ((row_at s.rows frame).modified || told.1)
+gathered-written s mid frame told lt is =
+    let row : Row = with_bits (row_at s.rows frame) ((row_at s.rows frame).referenced || told.0) ((row_at s.rows frame).modified || told.1) in
+    ap (λ (t : StoreSeen). (row_at t.rows frame).modified) is ∙ ap (λ (r : Row). r.modified) (get_or-set_same s.rows frame row clear_row lt)
+
 -- a page that can give way still can once its bits are gathered
 pub gathered-victim : (s : StoreSeen) (frame : ℕ) (told : Bool × Bool) → IsVictim s frame → IsVictim (with_bits_gathered s frame told) frame
 gathered-victim s frame told v =

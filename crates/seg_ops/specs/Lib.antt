@@ -8,6 +8,7 @@ pub mod Empties
 pub mod OwnPages
 pub mod Rooms
 pub mod Frames
+pub mod Copies
 pub mod SlotsDue
 pub mod Writers
 pub mod CleanSteps

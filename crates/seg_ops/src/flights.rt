@@ -145,7 +145,7 @@ fn page_place(files: &Files, file: u32, page: u32) -> Place
 }
 
 /// Where a page that exists lives.
-fn world_table<D: Disk>(world: &World<D>, name: PageName) -> Place
+pub(crate) fn world_table<D: Disk>(world: &World<D>, name: PageName) -> Place
     requires exists { IsTrue (page_exists world.now.files world.now.anon name) }
     requires fits { IsFit world.now }
     ensures place { result ≡ world_table (world_seen world.now) name }

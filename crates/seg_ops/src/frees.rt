@@ -5,10 +5,11 @@ ghost use Rattle.page_store.specs.page_hash.declared.PageName.{PageName};
 ghost use Rattle.page_store.specs.Laws.{Aborts};
 ghost use Rattle.page_store.specs.Steps.{next_frame, next_name, after_abort};
 ghost use Rattle.vm_world.specs.Serving.{ModifiesNone};
-ghost use Rattle.vm_world.specs.Words.{IsFit, OnlyStoreAndTails};
+ghost use Rattle.vm_world.specs.Words.{IsFit, IsKnown, OnlyStoreAndTails};
 ghost use Rattle.vm_world.specs.World.{world_seen};
 ghost use Rattle.vm_world.specs.WorldSteps.{stays};
 ghost use Rattle.seg_ops.specs.Rooms.{KeepsUnlisted, KeepsAbsent, ListsNoMore};
+ghost use Rattle.seg_ops.specs.Copies.{KeepsBytes};
 
 use crate::tails::pend_tail;
 use page_store::{Disk, PageName, Residence, Store};
@@ -35,6 +36,8 @@ pub fn free_next<D: Disk>(world: &mut World<D>)
     ensures free { next_name world.new.store ≡ None }
     // The tail of the file whose last page lost the frame is pending.
     ensures taken { TakesNextFrame world.old world.new }
+    // What a page has that was home is known.
+    ensures bytes { IsKnown world.old → KeepsBytes world.old world.new }
     // What stays: each page that is home in a frame on no list is there, and the frame is on none; and no page comes home.
     ensures homes { KeepsUnlisted world.old.store world.new.store }
     ensures absent { KeepsAbsent world.old.store world.new.store }

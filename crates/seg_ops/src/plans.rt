@@ -24,7 +24,7 @@ pub enum Fault {
 }
 
 /// The disk that a page lives on.
-fn disk_of<D: Disk>(world: &World<D>, name: PageName) -> u32
+pub(crate) fn disk_of<D: Disk>(world: &World<D>, name: PageName) -> u32
     requires fits { IsFit world.now }
     requires exists { IsTrue (page_exists world.now.files world.now.anon name) }
     ensures disk { result ≡ (world_table (world_seen world.now) name).disk }

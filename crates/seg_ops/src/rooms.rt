@@ -54,7 +54,7 @@ pub fn evict<D: Disk>(world: &mut World<D>, frame: u32)
 }
 
 /// Whether the page in a frame was used since its bits of use were cleared last. Its row says so then.
-fn was_used<D: Disk>(world: &mut World<D>, frame: u32) -> bool
+pub(crate) fn was_used<D: Disk>(world: &mut World<D>, frame: u32) -> bool
     requires frame { frame < length world.old.store.frames }
     requires unlisted { ¬ IsListedFrame world.old.store frame }
     requires fits { IsFit world.old }

@@ -25,7 +25,7 @@ module _ (old new : World) (spaces : Spaces) (p q m i : ℕ) (x : Spot) (fits : 
       → ChangesMemory p (memory_of old spaces) (memory_of new spaces) (λ F G. G ≡ with_own_shown F p q)
   changes-got bytes shows = changes-as p (memory_of old spaces) (memory_of new spaces) (λ F. tails_cleared (with_own_page F p q bytes) (tails_lost old (is_name (next_name old.store)))) (λ F. with_own_shown F p q)
       (λ born notes nf tell whole. lost-none (with_own_page (flat_memory (memory_of old spaces) born notes) p q bytes) old free
-      ∙ gets-page old spaces p q x fits owns.here born notes bytes (owner-private (memory_of old spaces) p q m i x fits owns) (shows refl born notes))
+      ∙ gets-page old spaces p q x fits owns.here born notes bytes (owner-private (memory_of old spaces) p q m i x fits owns) (shows refl born notes nf tell))
 
   -- from a slot that its place held
   pub changes-held : (s : ℕ) → slot_in old.maps m i ≡ Some s → ChangesMemory p (memory_of old spaces) (memory_of new spaces) (λ F G. G ≡ tails_cleared F (tails_lost old (is_name (next_name old.store))))

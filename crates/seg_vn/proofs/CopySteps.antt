@@ -1,6 +1,6 @@
 -- Stores to private pages that aren't their cell's alone, by the steps that they take.
 use Rattle.std.proofs.Common.{◌≡◌, ℕ, ◌<◌, ◌+◌, Bool, true, false, List, length, Option, Some, None, refl, sym, ap, ◌∙◌, inl, subst, arith, slice_set, Ok, Err, not, inr}
-use Rattle.std.specs.Prelude.{IsTrue, ◌||◌, is_some, nat_lt, option_map, option_and_then, unwrap_or}
+use Rattle.std.specs.Prelude.{IsTrue, IfSome, ◌||◌, is_some, nat_lt, option_map, option_and_then, unwrap_or}
 use Rattle.std.specs.Option.{option_or, option_map_or}
 use Rattle.std.specs.FinSet as set
 use Rattle.std.specs.Ordering.{nat_cmp}
@@ -8,15 +8,15 @@ use Rattle.std.proofs.lemmas.Bool.{ltb-true}
 use Rattle.seg_ops.specs.core_arena.Bytes.{zeros}
 use Rattle.seg_ops.specs.anon_map.Maps.{Map, places_of, with_places}
 use Rattle.seg_ops.specs.anon_slots.Slots.{AnonSlotsSeen, count_at}
-use Rattle.seg_ops.specs.page_hash.Names.{find, is_name}
+use Rattle.seg_ops.specs.page_hash.Names.{is_name}
 use Rattle.seg_ops.specs.page_hash.declared.PageName.{PageName}
 use Rattle.seg_ops.specs.page_store.Notes.{Notes}
 use Rattle.seg_ops.specs.page_store.Seen.{StoreSeen, IsListedFrame, residence}
-use Rattle.seg_ops.specs.page_store.Steps.{next_frame, next_name, home_bytes}
+use Rattle.seg_ops.specs.page_store.Steps.{next_frame, next_name}
 use Rattle.seg_ops.specs.page_store.declared.residence.Residence.TheVariants.{Home, Moving, Absent}
 use Rattle.seg_ops.specs.page_store.declared.plan.Hold.TheVariants as hold
 use Rattle.seg_ops.proofs.page_store.QueryLemmas.{absent-is}
-use Rattle.seg_ops.specs.hat_layer.Pool.{translation_at, fresh_translation}
+use Rattle.seg_ops.specs.hat_layer.Pool.{HatSeen, translation_at, fresh_translation}
 use Rattle.seg_ops.specs.hat_layer.declared.translation.Dropped.{Dropped}
 use Rattle.seg_ops.specs.vm_types.declared.call.Call.{Call}
 use Rattle.seg_ops.specs.vm_types.Prot.{can_read}
@@ -38,6 +38,7 @@ use Rattle.seg_ops.proofs.vm_world.CallSteps.{call_rule}
 use Rattle.seg_ops.proofs.vm_world.FlatWhole.{some-inj}
 use Rattle.seg_ops.proofs.vm_world.FrameRule.{exists-page}
 use Rattle.seg_ops.proofs.vm_world.StoredPages.{zeros-are}
+use Rattle.seg_ops.specs.Copies.{HasBytes, IsKnownLater, bytes_kept}
 use Rattle.seg_ops.specs.OwnPages.{with_own_shown}
 use Rattle.seg_ops.specs.Slots.{OwnsAlone}
 use Rattle.seg_ops.specs.Plans.{FetchesPage}
@@ -47,12 +48,11 @@ use Rattle.seg_ops.specs.vm_world.declared.wants.Wants.TheVariants as wants
 use Rattle.seg_ops.specs.vm_world.Words.{KeepsPages}
 use Rattle.seg_ops.specs.Steps.{MayShow, with_dropped_gathered}
 use Rattle.seg_ops.proofs.Composed.{keeps-same}
-use Rattle.seg_ops.proofs.Fills.{blank-is, held-by}
+use Rattle.seg_ops.proofs.Fills.{blank-is}
 use Rattle.seg_ops.proofs.FillSteps.{absent-zeros}
 use Rattle.seg_ops.proofs.OwnShown.{own_shown_law}
-use Rattle.seg_ops.proofs.SlotMemory.{home-value_bytes}
 use Rattle.seg_ops.proofs.SlotOwners.{places_law}
-use Rattle.seg_ops.proofs.StillSteps.{memory_of, value-is}
+use Rattle.seg_ops.proofs.StillSteps.{with_tables, memory_of, value-is}
 use Rattle.seg_vn.specs.FaultPlaces.{CellShows, CopyPlace, OwnSpot, ShowsZeros}
 use Rattle.seg_ops.specs.Faults.{Accesses, FaultModifies, ServesFault}
 use Rattle.seg_ops.specs.SlotsDue.{KeepsSlots, SlotsAfter, slot_due}
@@ -72,19 +72,32 @@ gathered-next s new o is = ap next_frame is ∙ by_drop o
     by_drop None = refl
     by_drop (Some d) = refl
 
-pub gathered-listed : (s new : StoreSeen) (o : Option Dropped) → new ≡ with_dropped_gathered s o → (frame : ℕ) → IsListedFrame new frame → IsListedFrame s frame
-gathered-listed s new o is frame l = by_drop o (subst (λ (t : StoreSeen). IsListedFrame t frame) is l)
-  where
-    by_drop : (o : Option Dropped) → IsListedFrame (with_dropped_gathered s o) frame → IsListedFrame s frame
-    by_drop None l = l
-    by_drop (Some d) l = l
-
 pub gathered-same : (s new : StoreSeen) (o : Option Dropped) → new ≡ with_dropped_gathered s o → new.names ≡ s.names
 gathered-same s new o is = ap (λ (t : StoreSeen). t.names) is ∙ by_drop o
   where
     by_drop : (o : Option Dropped) → (with_dropped_gathered s o).names ≡ s.names
     by_drop None = refl
     by_drop (Some d) = refl
+
+-- .. and what a page has once the next frame is taken
+pub gathered-later : (w : World) (store : StoreSeen) (hat : HatSeen) (o : Option Dropped) → store ≡ with_dropped_gathered w.store o → (name : PageName) (frame : ℕ) → IsKnownLater w name frame → IsKnownLater (with_tables w store hat) name frame
+gathered-later w store hat o is name frame later = subst (λ (s : StoreSeen). IsKnownLater (with_tables w s hat) name frame) (sym is) (by_drop o later)
+  where
+    by_drop : (o : Option Dropped) → IsKnownLater w name frame → IsKnownLater (with_tables w (with_dropped_gathered w.store o) hat) name frame
+    by_drop None l = l
+    by_drop (Some d) l = l
+
+pub gathered-kept : (w : World) (store : StoreSeen) (hat : HatSeen) (o : Option Dropped) → store ≡ with_dropped_gathered w.store o → (name : PageName) → bytes_kept (with_tables w store hat) name ≡ bytes_kept w name
+gathered-kept w store hat o is name = ap (λ (s : StoreSeen). bytes_kept (with_tables w s hat) name) is ∙ by_drop o
+  where
+    by_drop : (o : Option Dropped) → bytes_kept (with_tables w (with_dropped_gathered w.store o) hat) name ≡ bytes_kept w name
+    by_drop None = refl
+    by_drop (Some d) = refl
+
+-- a slot that other places hold too, where the page that is shown is its own
+pub copied-slot : (w v : AnonSlotsSeen) (name : PageName) (o : Option ℕ) → v ≡ w → IfSome o (λ (s : ℕ). (1 < count_at w s) × (name ≡ slot_name s)) → (P : PageName → Type 0) → P name → IfSome o (λ (s : ℕ). (1 < count_at v s) × P (slot_name s))
+copied-slot w v name None same shared P has = tt
+copied-slot w v name (Some s) same shared P has = (subst (λ (a : AnonSlotsSeen). 1 < count_at a s) (sym same) shared.0, subst P shared.1 has)
 
 -- WHOSE PLACE IT IS.
 pub own-alone : (w : World) (spaces : Spaces) (p q m i : ℕ) (x : Spot) → MemoryFits (memory_of w spaces) → OwnSpot spaces p q m i x → OwnsAlone spaces p q m i x
@@ -238,25 +251,21 @@ module _ (w v : World) (spaces : Spaces) (p q m i : ℕ) (x : Spot) (slot : Opti
   has-is : slot ≡ None → IsTrue (object_has v x.0.shown (x.0.index + x.1) x.0.object)
   has-is none = sym (ap (λ (o : Option ℕ). is_some o || object_has v x.0.shown (x.0.index + x.1) x.0.object) (own-empty none)) ∙ shows-same w v x maps files ∙ c.some
 
-  pub cell-shows : (name : PageName) (bytes : Page) → shown ≡ Some name → ((notes : Notes) → page_value v notes name ≡ bytes) → CellShows v spaces x slot bytes
-  cell-shows name bytes is value = λ none born notes.
+  pub cell-shows : (name : PageName) (bytes : Page) → shown ≡ Some name → HasBytes v name bytes → CellShows v spaces x slot bytes
+  cell-shows name bytes is has = λ none born notes nf tell.
       object-shows v spaces p q x fits c.here born notes name (own-none v spaces p q x fits c.here born notes (own-empty none) (c.bare none)) (name-is none ∙ is) (has-is none)
-      ∙ ap (λ (b : Page). Some b) (value notes)
+      ∙ ap (λ (b : Page). Some b) (has notes nf tell)
 
   pub cell-zeros : shown ≡ None → CellShows v spaces x slot zeros
-  cell-zeros is = λ none born notes.
+  cell-zeros is = λ none born notes nf tell.
       object-zeros v spaces p q x fits c.here born notes (own-none v spaces p q x fits c.here born notes (own-empty none) (c.bare none)) (c.bare none) (name-is none ∙ is) (has-is none)
       ∙ ap (λ (b : Page). Some b) (sym zeros-are)
 
--- the value of a page that no frame holds and that was never pushed, and of one that is home
-zero-value : (v : World) (spaces : Spaces) (name : PageName) → MemoryFits (memory_of v spaces) → residence v.store name ≡ Absent → IsTrue (is_unpushed v.files v.anon name) → IsTrue (page_exists v.files v.anon name) → (notes : Notes) → page_value v notes name ≡ zeros
-zero-value v spaces name fits absent unpushed exists notes =
+-- the value of a page that no frame holds and that was never pushed
+zero-value : (v : World) (spaces : Spaces) (name : PageName) → MemoryFits (memory_of v spaces) → residence v.store name ≡ Absent → IsTrue (is_unpushed v.files v.anon name) → IsTrue (page_exists v.files v.anon name) → HasBytes v name zeros
+zero-value v spaces name fits absent unpushed exists = λ notes nf tell.
     let real = exists-page v name fits.files exists in
     value-is v notes name real ∙ absent-zeros v.store notes (world_table v) name (absent-is v.store name fits.frames.sound absent) (blank-is v name fits.files real ∙ unpushed)
-
-pub home-value : (v : World) (spaces : Spaces) (name : PageName) (frame : ℕ) → MemoryFits (memory_of v spaces) → residence v.store name ≡ Home frame → (notes : Notes) → page_value v notes name ≡ home_bytes v.store (find v.store.names name)
-home-value v spaces name frame fits home notes =
-    value-is v notes name (exists-page v name fits.files (fits.frames.exist frame name (held-by v.store name frame home))) ∙ home-value_bytes v.store notes (world_table v) name frame home
 
 -- what a place that shows zeros has
 pub zeros-show : (w v : World) (spaces : Spaces) (p q m i : ℕ) (x : Spot) (slot : Option ℕ) (shown : Option PageName) → CopyPlace w spaces p q x m i slot shown → MemoryFits (memory_of v spaces) → v.maps ≡ w.maps → v.files ≡ w.files → ShowsZeros v shown

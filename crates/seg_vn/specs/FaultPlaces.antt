@@ -18,11 +18,13 @@ use Rattle.seg_ops.specs.vm_types.declared.call.Object.TheVariants as object
 use Rattle.seg_ops.specs.vm_world.CallSteps.{ChangesMemory}
 use Rattle.seg_ops.specs.vm_world.FlatMemory.{cell_of, flat_memory, own_without_slot, Memory}
 use Rattle.seg_ops.specs.vm_world.MemoryFits.{MemoryFits}
+use Rattle.seg_ops.specs.vm_world.NotesFit.{NotesFit}
 use Rattle.seg_ops.specs.vm_world.Pages.{contents_of}
 use Rattle.seg_ops.specs.vm_world.Segments.{Spot, Spaces, spot_at, own_slot, shown_name}
 use Rattle.seg_ops.specs.vm_world.TranslationsFit.{MayWriteInPlace}
 use Rattle.seg_ops.specs.vm_world.Wants.{shows_page}
-use Rattle.seg_ops.specs.vm_world.World.{World, world_seen, slot_in, slot_name, is_unpushed, page_exists}
+use Rattle.seg_ops.specs.vm_world.World.{World, world_seen, slot_in, slot_name, is_unpushed, page_exists, AllTell}
+use Rattle.seg_ops.specs.Copies.{HasBytes}
 use Rattle.seg_ops.specs.OwnPages.{with_own_shown}
 use Rattle.seg_ops.specs.Slots.{GivesSlot, MakesHome, OwnsAlone}
 use Rattle.seg_vn.specs.Shown.{ZerosPlace}
@@ -70,18 +72,21 @@ pub record CopyPlace (w : World) (spaces : Spaces) (p q : ℕ) (x : Spot) (m i :
   pub some : IsTrue (shows_page w x)
   pub allowed : IsTrue (can_write x.0.prot)
 
--- Where the place holds no slot, its cell shows these bytes.
+-- Where the place holds no slot, its cell shows these bytes, as the disks tell it.
 abbrev pub CellShows : World → Spaces → Spot → Option ℕ → Page → Type 0
-CellShows w spaces x slot bytes = slot ≡ None → (born : set.FinSet nat_cmp) (notes : Notes) → shown (flat_memory (record { world = w; spaces = spaces }) born notes) (cell_of (contents_of w notes).place x) ≡ Some bytes
+CellShows w spaces x slot bytes = slot ≡ None → (born : set.FinSet nat_cmp) (notes : Notes) → NotesFit w notes → AllTell w notes → shown (flat_memory (record { world = w; spaces = spaces }) born notes) (cell_of (contents_of w notes).place x) ≡ Some bytes
 
 -- What is shown is zeros that no frame holds: a page that was never pushed, or nothing of a zero object.
 abbrev pub ShowsZeros : World → Option PageName → Type 0
 ShowsZeros w None = Unit {0}
 ShowsZeros w (Some name) = (residence w.store name ≡ Absent) × IsTrue (is_unpushed w.files w.anon name) × IsTrue (page_exists w.files w.anon name)
 
--- The slot is one that other places hold too, with this page; or with a page of zeros that no frame holds.
+-- The slot is one that other places hold too, with this page; or with one that has these bytes; or with one of zeros that no frame holds.
 abbrev pub IsSharedSlot : {D : Type 0} → rust.World D → PageName → ℕ → Type 0
 IsSharedSlot w name s = (1 < count_at w.anon s) × (name ≡ slot_name s)
+
+abbrev pub IsCopiedSlot : {D : Type 0} → rust.World D → Page → ℕ → Type 0
+IsCopiedSlot w bytes s = (1 < count_at w.anon s) × HasBytes (world_seen w) (slot_name s) bytes
 
 abbrev pub IsSharedBlank : {D : Type 0} → rust.World D → ℕ → Type 0
 IsSharedBlank w s = (1 < count_at w.anon s) × (residence w.store (slot_name s) ≡ Absent) × IsTrue (is_unpushed w.files w.anon (slot_name s))

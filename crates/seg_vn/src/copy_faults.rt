@@ -1,25 +1,25 @@
 //! Stores to private pages that aren't their cell's alone: the cell gets a page of its own.
-ghost use Rattle.std.specs.Prelude.{◌≡◌, ◌<◌, ℕ, Option, true, Some, None, IsSome, IsTrue, IfSome};
+ghost use Rattle.std.specs.Prelude.{◌≡◌, ◌<◌, Option, length, true, Some, None, IsSome, IsTrue, IfSome};
 ghost use Rattle.seg_ops.specs.core_arena.Bytes.{zeros};
 ghost use Rattle.seg_ops.specs.hat_layer.Pool.{translation_at};
-ghost use Rattle.seg_ops.specs.page_hash.Names.{find};
 ghost use Rattle.seg_ops.specs.page_hash.declared.PageName.{PageName};
-ghost use Rattle.seg_ops.specs.page_store.Seen.{IsListedFrame, residence};
-ghost use Rattle.seg_ops.specs.page_store.Steps.{next_frame, next_name, home_bytes};
+ghost use Rattle.seg_ops.specs.page_store.Seen.{residence};
+ghost use Rattle.seg_ops.specs.page_store.Steps.{next_frame, next_name};
 ghost use Rattle.seg_ops.specs.vm_world.Segments.{Spaces};
 ghost use Rattle.seg_ops.specs.vm_world.Serving.{ModifiesNone};
 ghost use Rattle.seg_ops.specs.vm_world.Words.{memory, Fits, IsFit, IsKnown, OneIsHome, OneIsHomeBeside, TwoAreHome, OnlyFrames, SameFiles, SameFilesAndHat};
 ghost use Rattle.seg_ops.specs.vm_world.World.{world_seen, is_unpushed, page_exists};
-ghost use Rattle.seg_vn.specs.FaultPlaces.{IsOwnPlace, ShowsZeros, TakesNext, IsOwnSpot, GivesOwn, ServesCopy, IsSharedSlot, IsSharedBlank};
+ghost use Rattle.seg_vn.specs.FaultPlaces.{IsOwnPlace, ShowsZeros, TakesNext, IsOwnSpot, GivesOwn, ServesCopy, IsCopiedSlot, IsSharedSlot, IsSharedBlank};
+ghost use Rattle.seg_ops.specs.Copies.{KeepsBytes};
 ghost use Rattle.seg_ops.specs.Owners.{IsOwned};
-ghost use Rattle.seg_ops.specs.Rooms.{KeepsUnlisted, KeepsAbsent, ListsNoMore};
+ghost use Rattle.seg_ops.specs.Rooms.{KeepsAbsent};
 
 use crate::segment::load_page;
 use home_pages::is_unpushed;
 use seg_ops::{
-    Disk, Fault, Hold, PageName, Plan, Residence, SWAP_OBJECT, Wants, World, ask, copy_slot,
-    drop_translation, fetch, free_next, make_copy, make_room, make_room_beside, make_zero,
-    take_back, zero_slot,
+    Disk, Fault, Hold, PageName, Plan, Residence, SWAP_OBJECT, Wants, World, ask, bytes_kept,
+    copy_slot, drop_translation, fetch, free_next, make_copy, make_room, make_room_for_copy,
+    make_zero, take_back, zero_slot,
 };
 
 /// A place of the anon map of a private mapping, and the slot that it holds, if it holds one.
@@ -30,22 +30,20 @@ pub(crate) struct OwnPlace {
     pub(crate) slot: Option<u32>,
 }
 
-/// Makes a slot for a place of a private mapping, with a copy of the page that it shows, in a frame that is free.
-fn copy_into<D: Disk>(world: &mut World<D>, name: PageName, own: OwnPlace) -> u32
+/// Makes a slot for a place of a private mapping, with the bytes of the page that it shows, in a frame that is free.
+fn copy_into<D: Disk>(world: &mut World<D>, bytes: &[u8], own: OwnPlace) -> u32
     requires own { IsOwnPlace world.old.maps own }
-    requires shared { IfSome own.slot (IsSharedSlot world.old name) }
-    requires source { (frame : ℕ) × (residence world.old.store name ≡ Residence.Home frame)
-        × (¬ IsListedFrame world.old.store frame) }
+    requires shared { IfSome own.slot (IsCopiedSlot world.old bytes.now) }
+    requires size { length bytes.now ≡ 4096 }
     requires available { IsSome (next_frame world.old.store) }
     requires owned { IsOwned world.old own.map own.place }
-    ensures own { GivesOwn world.old world.new own
-        (home_bytes world.old.store (find world.old.store.names name)) result }
+    ensures own { GivesOwn world.old world.new own bytes.now result }
     // What stays.
     ensures rest { SameFilesAndHat world.old world.new }
 {
     match own.slot {
-        None => make_copy(world, name, own.map, own.place),
-        Some(held) => copy_slot(world, own.map, own.place, held),
+        None => make_copy(world, bytes, own.map, own.place),
+        Some(held) => copy_slot(world, bytes, own.map, own.place, held),
     }
 }
 
@@ -75,10 +73,9 @@ fn clear_way<D: Disk>(world: &mut World<D>, space: u32, page: u32)
     ensures takes { (spaces : Spaces) → Fits world.old spaces
         → TakesNext (memory world.old spaces) (world_seen world.new) world.old.pending
         world.new.pending }
+    ensures bytes { IsKnown world.old → KeepsBytes world.old world.new }
     // What stays.
-    ensures homes { KeepsUnlisted world.old.store world.new.store }
     ensures absent { KeepsAbsent world.old.store world.new.store }
-    ensures lists { ListsNoMore world.old.store world.new.store }
     ensures modified { ModifiesNone (world_seen world.old) (world_seen world.new) }
     ensures rest { OnlyFrames world.old world.new }
 {
@@ -113,7 +110,8 @@ pub(crate) fn own_zeros<D: Disk>(
     Ok(Fault::Loaded)
 }
 
-/// A private page that shows a page which is home gets a copy of its own, and its translation.
+/// A private page that shows a page which is home gets a copy of its own, and its translation. The copy gets that page's frame,
+/// if it can be spared, where a modified page would have to be pushed first.
 fn copy_page<D: Disk>(
     world: &mut World<D>,
     space: u32,
@@ -133,11 +131,12 @@ fn copy_page<D: Disk>(
     ensures rest { SameFiles world.old world.new }
 {
     take_back(world, name);
-    if let Some(victim) = make_room_beside(world, frame) {
+    if let Some(victim) = make_room_for_copy(world, name, frame) {
         return Err(ask(world, Plan::Push(victim)));
     }
+    let bytes = bytes_kept(world, name);
     clear_way(world, space, page);
-    let slot = copy_into(world, name, own);
+    let slot = copy_into(world, &bytes, own);
     let object = SWAP_OBJECT;
     load_page(world, space, page, PageName { object, page: slot }, true);
     Ok(Fault::Loaded)

@@ -2,6 +2,8 @@
 #![tactic(auto)]
 
 #[cfg(test)]
+mod copy_tests;
+#[cfg(test)]
 mod fork_tests;
 #[cfg(test)]
 mod mapping_tests;

@@ -16,7 +16,8 @@ use block_device::{Block, MemDisk};
 use hat_layer::Hat;
 use seg_ops::{
     Flight, PageName, Plan, Residence, SWAP_OBJECT, Store, Wants, World, ZeroObjects, ask,
-    begin_read, copy_slot, drop_object, drop_places, drop_slot, end_flight, leave_slot, make_zero,
+    begin_read, bytes_kept, copy_slot, drop_object, drop_places, drop_slot, end_flight, leave_slot,
+    make_zero,
 };
 use std::alloc::{AllocError, Global};
 use std::test::Fail;
@@ -228,12 +229,14 @@ fn try_copy(world: &mut World<MemDisk>, map: u32) -> Told
     let Some((slot, count)) = held(world, map, 0) else {
         return Told::No;
     };
-    match world.store.resident(page_of_slot(slot)) {
+    let name = page_of_slot(slot);
+    match world.store.resident(name) {
         Residence::Home(frame) => {
             if count == 1 || world.store.listed(frame) {
                 return Told::No;
             }
-            Told::Slot(copy_slot(world, map, 0, slot))
+            let bytes = bytes_kept(world, name);
+            Told::Slot(copy_slot(world, &bytes, map, 0, slot))
         }
         Residence::Absent => Told::No,
         Residence::Moving(_) => Told::No,

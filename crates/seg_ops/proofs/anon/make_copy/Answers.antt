@@ -1,12 +1,10 @@
 use Rattle.seg_ops.proofs.Shows.{of-frame as of-next}
-use Rattle.std.proofs.Common.{◌≡◌, ℕ, true, List, Option, Some, refl, sym, ap, subst, slice_set}
-use Rattle.page_store.specs.page_hash.Names.{find, is_name}
+use Rattle.std.proofs.Common.{◌≡◌, true, List, Option, Some, refl, sym, ap, subst, slice_set}
+use Rattle.page_store.specs.page_hash.Names.{is_name}
 use Rattle.page_store.specs.page_hash.declared.PageName.{PageName}
 use Rattle.page_store.specs.page_lock.Rows.{row_at}
 use Rattle.page_store.specs.page_lock.declared.Row.{Row}
-use Rattle.page_store.specs.Steps.{next_frame, next_name, fresh_row, home_bytes}
-use Rattle.page_store.specs.Moves.{FillsFrame}
-use Rattle.page_store.specs.Value.{value}
+use Rattle.page_store.specs.Steps.{next_frame, next_name, fresh_row}
 use Rattle.vm_world.specs.anon_map.Maps.{Map, places_of, with_places}
 use Rattle.vm_world.specs.anon_slots.Slots.{AnonSlotsSeen, IsSoundAnonSlots}
 use Rattle.vm_world.specs.StateSteps.{PendsTails}
@@ -16,17 +14,17 @@ use Rattle.seg_ops.specs.Slots.{MakesSlot, MakesHome, MakesPage}
 use Rattle.seg_ops.proofs.FillSteps.{some-of, takes-page}
 use Rattle.seg_ops.proofs.SlotCounts.{made-slot, least-there}
 use Rattle.seg_ops.proofs.SlotFlat.{changes-owned}
-use Rattle.seg_ops.proofs.SlotMemory.{AreShown, free-absent, copy-shown, next-exists, home-value_bytes}
+use Rattle.seg_ops.proofs.SlotMemory.{AreShown, free-absent, copy-shown, next-exists}
 use Rattle.seg_ops.proofs.SlotSteps.{made-page, made-home}
 use Rattle.seg_ops.proofs.anon.make_copy.Given.{Over}
-use Rattle.seg_ops.proofs.anon.make_copy.Goals.{After-set, After-pend_tail}
+use Rattle.seg_ops.proofs.anon.make_copy.Goals.{After-set}
 use Rattle.seg_ops.proofs.anon.make_copy.Goals as goal
 
 pub make-slot-requires : goal.make-slot-requires
 make-slot-requires g c = let fit = c.requires.fits.1 in room c.args.world.now.anon c.args.world.now.maps c.args.map c.args.place fit.counts c.requires.within c.requires.empty
 
-pub copy-requires-clause-absent : goal.copy-requires-clause-absent
-copy-requires-clause-absent g c = free-absent (world_seen c.args.world.now) c.make-slot.result c.requires.fits.1.frames c.make-slot.ensures.free
+pub fill_bytes-requires-clause-absent : goal.fill_bytes-requires-clause-absent
+fill_bytes-requires-clause-absent g c = free-absent (world_seen c.args.world.now) c.make-slot.result c.requires.fits.1.frames c.make-slot.ensures.free
 
 -- the slot that was made
 slot : (g : Over) (c : After-set g) → MakesSlot c.args.world.now.anon c.make-slot.new.self c.args.world.now.maps c.set.new.self c.args.map c.args.place c.make-slot.result
@@ -51,7 +49,7 @@ returns-clause-made g c =
     let pends = subst (λ (o : Option PageName). PendsTails w (is_name o) c.args.world.now.pending c.pend_tail.new.world.pending) c.next_name-lost.ensures
     (record { bits = c.pend_tail.ensures.pends.bits; below = c.pend_tail.ensures.pends.below }) in
     subst (λ (v : World). MakesHome w v c.args.world.now.pending c.pend_tail.new.world.pending s) (sym (ap world_seen c.pend_tail.ensures.rest))
-    (made-home w (record w { store = c.copy.new.self; anon = c.make-slot.new.self; maps = c.set.new.self }) c.args.world.now.pending c.pend_tail.new.world.pending s true (λ notes table. value w.store notes table c.args.from) c.copy.ensures.laws c.make-slot.ensures.free k.alone pends refl)
+    (made-home w (record w { store = c.fill_bytes.new.store; anon = c.make-slot.new.self; maps = c.set.new.self }) c.args.world.now.pending c.pend_tail.new.world.pending s true (λ notes table. c.args.bytes.now) c.fill_bytes.ensures.laws c.make-slot.ensures.free k.alone pends refl)
 
 pub returns-clause-makes : goal.returns-clause-makes
 returns-clause-makes g c = λ spaces p q x fits owns unloaded.
@@ -59,15 +57,15 @@ returns-clause-makes g c = λ spaces p q x fits owns unloaded.
     let s = c.make-slot.result in
     let k = slot g (goal.at.returns-clause-makes g c).After-set in
     let next = some-of (next_frame w.store) c.requires.available in
-    let bytes = home_bytes w.store (find w.store.names c.args.from) in
-    let takes = takes-page w spaces c.copy.new.self (slot_name s) next.0 bytes true (λ notes table. value w.store notes table c.args.from) fits next.1 (free-absent w s fits.frames k.free) c.copy.ensures.new c.copy.ensures.laws in
+    let bytes = c.args.bytes.now in
+    let store = c.fill_bytes.new.store in
+    let takes = takes-page w spaces store (slot_name s) next.0 bytes true (λ notes table. bytes) fits next.1 (free-absent w s fits.frames k.free) c.fill_bytes.ensures.new c.fill_bytes.ensures.laws in
     let shown = subst (λ (ps : List (Option Map)). AreShown w spaces ps) (sym k.set) (copy-shown w spaces p q c.args.map c.args.place s x c.requires.within c.requires.empty owns unloaded) in
     subst (λ (v : World). MakesPage w v spaces (is_name (next_name w.store)) c.args.map c.args.place s bytes) (sym (ap world_seen c.pend_tail.ensures.rest))
-    (made-page w spaces c.copy.new.self c.make-slot.new.self c.set.new.self c.args.map c.args.place s next.0 bytes fits k takes
-    (ap (λ (r : Row). r.modified) (of-next (next_frame w.store) next.0 (λ frame. row_at c.copy.new.self.rows frame ≡ fresh_row true) next.1 c.copy.ensures.laws.row)) shown
-    (λ notes table stored. subst (λ (b : List ℕ). FillsFrame w.store notes c.copy.new.self notes table (slot_name s) b) (home-value_bytes w.store notes table c.args.from c.requires.source.0 c.requires.source.1) (c.copy.ensures.laws.values notes table stored)))
+    (made-page w spaces store c.make-slot.new.self c.set.new.self c.args.map c.args.place s next.0 bytes fits k takes
+    (ap (λ (r : Row). r.modified) (of-next (next_frame w.store) next.0 (λ frame. row_at store.rows frame ≡ fresh_row true) next.1 c.fill_bytes.ensures.laws.row)) shown c.fill_bytes.ensures.laws.values)
 
 pub returns-clause-changes : goal.returns-clause-changes
 returns-clause-changes g c = λ spaces p q x fits owns unloaded.
-    changes-owned p q x (world_seen c.args.world.now) (world_seen c.pend_tail.new.world) spaces (is_name (next_name c.args.world.now.store)) c.args.map c.args.place c.make-slot.result (home_bytes c.args.world.now.store (find c.args.world.now.store.names c.args.from)) fits
+    changes-owned p q x (world_seen c.args.world.now) (world_seen c.pend_tail.new.world) spaces (is_name (next_name c.args.world.now.store)) c.args.map c.args.place c.make-slot.result c.args.bytes.now fits
     (returns-clause-makes g c spaces p q x fits owns unloaded) owns

@@ -1,15 +1,15 @@
 use Rattle.std.proofs.Common.{◌≡◌, None, Some, sym, ap, ◌∙◌, subst, slice_set}
 use Rattle.vm_world.specs.hat_layer.Pool.{translation_at}
-use Rattle.page_store.specs.page_hash.Names.{find, is_name}
-use Rattle.page_store.specs.Steps.{next_name, home_bytes}
+use Rattle.page_store.specs.page_hash.Names.{is_name}
+use Rattle.page_store.specs.Steps.{next_name}
 use Rattle.vm_world.specs.anon_map.Maps.{places_of, with_places}
 use Rattle.vm_world.specs.flat_model.Step.{tails_cleared}
 use Rattle.vm_world.specs.CallSteps.{ChangesMemory}
-use Rattle.vm_world.specs.World.{World, world_seen, slot_name}
+use Rattle.vm_world.specs.World.{World, world_seen}
 use Rattle.vm_world.specs.declared.world.World as rust
 use Rattle.vm_world.specs.WorldSteps.{tails_lost}
 use Rattle.seg_ops.specs.Slots.{MakesHome, with_own_page}
-use Rattle.seg_ops.proofs.SlotCopies.{changes-again, own-home}
+use Rattle.seg_ops.proofs.SlotCopies.{changes-again, own-bytes}
 use Rattle.vm_world.specs.anon_slots.Slots.{AnonSlotsSeen, count_at}
 use Rattle.seg_ops.proofs.SlotCounts.{left-free}
 use Rattle.seg_ops.proofs.SlotPlaces.{place-twice}
@@ -36,14 +36,13 @@ returns-clause-changes g c = λ spaces p q x fits owns unloaded.
     let w = world_seen c.args.world.now in
     let mid = world_seen c.leave_slot.new.world in
     let new = world_seen c.make_copy.new.world in
-    let from = slot_name c.args.slot in
     let left = c.leave_slot.ensures.empties spaces p q x fits owns unloaded in
     let none = ap (λ hat. translation_at hat.places p q) left.hat ∙ unloaded in
     let copied = c.make_copy.ensures.changes spaces p q x left.memory owns none in
-    changes-again w spaces p q x (home_bytes w.store (find w.store.names from)) owns.here (own-home w spaces p q c.args.map c.args.place c.args.slot x fits c.requires.holds owns c.requires.source.0 c.requires.source.1)
+    changes-again w spaces p q x c.args.bytes.now owns.here (own-bytes w spaces p q c.args.map c.args.place c.args.slot x fits c.requires.holds owns c.args.bytes.now c.requires.bytes)
     mid new (tails_lost w (is_name (next_name w.store)))
     (c.leave_slot.ensures.changes spaces p q x fits owns unloaded)
-    (subst (λ (v : World). ChangesMemory p (memory_of mid spaces) (memory_of new spaces) (λ F G. G ≡ tails_cleared (with_own_page F p q (home_bytes v.store (find v.store.names from))) (tails_lost v (is_name (next_name v.store)))))
+    (subst (λ (v : World). ChangesMemory p (memory_of mid spaces) (memory_of new spaces) (λ F G. G ≡ tails_cleared (with_own_page F p q c.args.bytes.now) (tails_lost v (is_name (next_name v.store)))))
     (ap world_seen c.leave_slot.ensures.rest) copied)
 
 pub returns-clause-made : goal.returns-clause-made

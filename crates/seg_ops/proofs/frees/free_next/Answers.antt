@@ -8,6 +8,7 @@ use Rattle.vm_world.specs.Segments.{Spaces}
 use Rattle.vm_world.specs.Serving.{LosesFrame, ModifiesNone}
 use Rattle.vm_world.specs.World.{World, world_seen}
 use Rattle.vm_world.specs.WorldSteps.{WorldStep, stays}
+use Rattle.seg_ops.specs.Copies.{HasBytes, bytes_kept}
 use Rattle.seg_ops.proofs.FreedFrames.{IsFreed, freed}
 use Rattle.seg_ops.proofs.NewlyModified.{freed-modifies}
 use Rattle.seg_ops.proofs.Pending.{next-there, pends-next}
@@ -68,3 +69,9 @@ pub returns-clause-absent : goal.returns-clause-absent
 returns-clause-absent g c = λ page none.
     let at = (goal.at.returns-clause-absent g c).After-pend_tail in
     ap (λ (s : StoreSeen). residence s page) (store g at) ∙ (is g at c.requires.fits.0 c.requires.fits.1).absent page none
+
+pub returns-clause-bytes : goal.returns-clause-bytes
+returns-clause-bytes g c = λ known page frame home later.
+    let w = world_seen c.args.world.now in
+    let at = (goal.at.returns-clause-bytes g c).After-pend_tail in
+    subst (λ (v : World). HasBytes v page (bytes_kept w page)) (sym (ap world_seen c.pend_tail.ensures.rest)) ((is g at c.requires.fits.0 c.requires.fits.1).bytes known.0 page frame known.1 home later)

@@ -4,9 +4,12 @@ use Rattle.seg_ops.specs.hat_layer.Pool.{translation_at, told_of}
 use Rattle.seg_ops.specs.page_hash.Names.{is_name, name_at}
 use Rattle.seg_ops.specs.page_store.Steps.{next_name}
 use Rattle.seg_ops.specs.vm_world.StateSteps.{PendsTails}
-use Rattle.seg_ops.specs.vm_world.World.{world_seen}
+use Rattle.seg_ops.specs.flat_model.Words.{Page}
+use Rattle.seg_ops.specs.vm_world.Words.{IsKnown}
+use Rattle.seg_ops.specs.vm_world.World.{World, world_seen}
+use Rattle.seg_ops.specs.Copies.{HasBytes, IsKnownLater, bytes_kept}
 use Rattle.seg_ops.proofs.Modified.{modifies-then}
-use Rattle.seg_vn.proofs.CopySteps.{gathered-next, gathered-listed, gathered-same}
+use Rattle.seg_vn.proofs.CopySteps.{gathered-next, gathered-same, gathered-later, gathered-kept}
 use Rattle.home_pages.proofs.Takes.{takes-later, takes-next}
 use Rattle.seg_vn.proofs.copy_faults.clear_way.Goals as goal
 use Rattle.home_pages.proofs.Replacements.{cut-frame}
@@ -23,17 +26,8 @@ returns-clause-available g c =
 pub returns-clause-gone : goal.returns-clause-gone
 returns-clause-gone g c = ap (λ v. translation_at v.hat.places c.args.space c.args.page) c.free_next.ensures.rest ∙ c.drop_translation.ensures.gone
 
-pub returns-clause-homes : goal.returns-clause-homes
-returns-clause-homes g c = λ page frame home unlisted.
-    c.free_next.ensures.homes page frame (c.drop_translation.ensures.stay page ∙ home)
-    (λ l. unlisted (gathered-listed c.args.world.now.store c.drop_translation.new.world.store (option_map told_of (translation_at c.args.world.now.hat.places c.args.space c.args.page)) c.drop_translation.ensures.store frame l))
-
 pub returns-clause-absent : goal.returns-clause-absent
 returns-clause-absent g c = λ page none. c.free_next.ensures.absent page (c.drop_translation.ensures.stay page ∙ none)
-
-pub returns-clause-lists : goal.returns-clause-lists
-returns-clause-lists g c = λ frame l.
-    gathered-listed c.args.world.now.store c.drop_translation.new.world.store (option_map told_of (translation_at c.args.world.now.hat.places c.args.space c.args.page)) c.drop_translation.ensures.store frame (c.free_next.ensures.lists frame l)
 
 pub returns-clause-takes : goal.returns-clause-takes
 returns-clause-takes g c = λ spaces fits.
@@ -53,3 +47,14 @@ returns-clause-takes g c = λ spaces fits.
 
 pub returns-clause-modified : goal.returns-clause-modified
 returns-clause-modified g c = modifies-then (world_seen c.args.world.now) (world_seen c.drop_translation.new.world) (world_seen c.free_next.new.world) c.drop_translation.ensures.modified c.free_next.ensures.modified
+
+pub returns-clause-bytes : goal.returns-clause-bytes
+returns-clause-bytes g c = λ known name frame home later.
+    let old = world_seen c.args.world.now in
+    let drop = option_map told_of (translation_at c.args.world.now.hat.places c.args.space c.args.page) in
+    let seen = ap world_seen c.drop_translation.ensures.rest in
+    let mid = c.drop_translation.new.world in
+    let there = subst (λ (v : World). IsKnownLater v name frame) (sym seen) (gathered-later old mid.store mid.hat drop c.drop_translation.ensures.store name frame later) in
+    let is_known : IsKnown mid = (known.0, (c.drop_translation.ensures.keeps c.requires.fits.0 c.requires.fits.1).notes known.0 tt known.1) in
+    subst (λ (b : Page). HasBytes (world_seen c.free_next.new.world) name b) (ap (λ (v : World). bytes_kept v name) seen ∙ gathered-kept old mid.store mid.hat drop c.drop_translation.ensures.store name)
+    (c.free_next.ensures.bytes is_known name frame (c.drop_translation.ensures.stay name ∙ home) there)

@@ -1,6 +1,4 @@
 use Rattle.std.proofs.Common.{◌∙◌}
-use Rattle.seg_ops.specs.page_hash.Names.{find}
-use Rattle.seg_ops.specs.page_store.Steps.{home_bytes}
 use Rattle.seg_ops.specs.vm_world.World.{world_seen}
 use Rattle.seg_vn.proofs.Copies.{changes-got, changes-held}
 use Rattle.seg_vn.proofs.SlotsDue.{gives-new, gives-other}
@@ -13,7 +11,7 @@ returns-in-None-clause-own g c = record {
   made = c.make_copy.ensures.made;
   memory = λ spaces p q x fits owns unloaded. (c.make_copy.ensures.changes spaces p q x fits owns unloaded).memory;
   changes = λ spaces p q x fits owns unloaded free shows.
-      changes-got (world_seen c.args.world.now) (world_seen c.make_copy.new.world) spaces p q c.args.own.map c.args.own.place x fits owns free (home_bytes c.args.world.now.store (find c.args.world.now.store.names c.args.name)) (λ none. shows c.in-None.is)
+      changes-got (world_seen c.args.world.now) (world_seen c.make_copy.new.world) spaces p q c.args.own.map c.args.own.place x fits owns free c.args.bytes.now (λ none. shows c.in-None.is)
       (c.make_copy.ensures.changes spaces p q x fits owns unloaded);
 }
 

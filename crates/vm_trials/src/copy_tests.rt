@@ -1,0 +1,76 @@
+//! A store that copies a page which is in swap, where each frame has a modified page: one push for the frame of the page that is read, the read, and no more, since the
+//! copy gets that page's frame. What is told of each act is worked out by hand.
+ghost use Rattle.std.specs.Prelude.{◌<◌, ◌≤◌};
+
+use crate::tests::Act::{Do, Land, Try};
+use crate::tests::What::{Fork, Load, Store, Zero};
+use crate::tests::{STORED, make_all, swapping};
+use crate::trial::Told::{Done, Landed, Sent};
+use crate::trial::Trial;
+use block_device::DiskFault;
+use std::alloc::Global;
+use std::test::Fail;
+use vm_types::Reply::{Mapped, Word};
+
+/// Seven private pages of process 1 through five frames, all of them stored. The search for a victim begins behind the hand, which is at frame 0, and all pages were
+/// used as the sixth is stored: so the pages in frames 1 and 2, at 0x3000 and 0x4000, are in swap alone. The child, process 2, shares all seven.
+fn fill_frames(trial: &mut Trial) -> Result<(), Fail> {
+    make_all(
+        trial,
+        &[
+            (Do(0, Zero(0x2000, 0x7000)), Done(Mapped(0x2000))),
+            (Do(0, Store(0x2000, 1)), STORED),
+            (Do(0, Store(0x3000, 2)), STORED),
+            (Do(0, Store(0x4000, 3)), STORED),
+            (Do(0, Store(0x5000, 4)), STORED),
+            (Do(0, Store(0x6000, 5)), STORED),
+            (Do(0, Store(0x7000, 6)), STORED),
+            (Do(0, Store(0x8000, 7)), STORED),
+            (Do(0, Fork(2)), STORED),
+        ],
+    )
+}
+
+/// The child stores to a page that is in swap: a page is pushed, the page is read in, and the store is done. Its word at 4 of the page is its parent's still, which
+/// has its own page.
+fn copy_among_modified(trial: &mut Trial) -> Result<(), Fail> {
+    fill_frames(trial)?;
+    make_all(
+        trial,
+        &[
+            (Try(1, Store(0x3004, 9)), Sent),
+            (Land(1), Landed),
+            (Try(1, Store(0x3004, 9)), Sent),
+            (Land(1), Landed),
+            (Try(1, Store(0x3004, 9)), STORED),
+            (Try(1, Load(0x3004)), Done(Word(9))),
+            (Try(1, Load(0x3000)), Done(Word(2))),
+            (Do(0, Load(0x3004)), Done(Word(0))),
+            (Do(0, Load(0x3000)), Done(Word(2))),
+            (Do(1, Load(0x3004)), Done(Word(9))),
+        ],
+    )
+}
+
+/// The transfer that failed at the close, and how many entries the history has.
+fn copied_and_closed(
+    alloc: Global,
+    frames: u32,
+    slots: u32,
+) -> Result<(Option<DiskFault>, usize), Fail>
+    requires frames { 4 < frames }
+    requires some { 0 < slots }
+    requires slots { slots ≤ 16 }
+{
+    let mut trial = swapping(alloc, frames, slots, [0, 1, 2])?;
+    copy_among_modified(&mut trial)?;
+    let finished = trial.finish()?;
+    Ok((finished.fault, finished.history.entries().len()))
+}
+
+#[test]
+fn a_store_that_copies_a_page_makes_two_transfers(rt: HostRuntime) -> Result<(), Fail> {
+    let made = copied_and_closed(rt.alloc(), 5, 16)?;
+    assert_eq!(rt; made, (None, 15));
+    Ok(())
+}
