@@ -158,10 +158,3 @@ gap-absent w f n ready away name gap = elim (ready name gap) [
   | inr b ↦ b
   | inl h ↦ absurd (away (subst (IsGapPage w f n) gap.last gap) h.0 (ap (residence w.store) (sym gap.last) ∙ h.1))
 ]
-
--- a frame is on a list where it was, as the lists stay
-pub listed-was : (old new : StoreSeen) (frame : ℕ) → SameLists old new → IsListedFrame new frame → IsListedFrame old frame
-listed-was old new frame same listed = elim listed [
-  | inl free ↦ inl (subst (λ (fs : List ℕ). Contains fs frame) same.0 free)
-  | inr cached ↦ inr (subst (λ (fs : List ℕ). Contains fs frame) same.1 cached)
-]

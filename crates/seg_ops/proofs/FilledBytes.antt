@@ -13,17 +13,11 @@ use Rattle.page_store.specs.declared.residence.Residence.TheVariants.{Absent}
 use Rattle.page_store.proofs.FillLemmas.{fills-frame, taken-within}
 use Rattle.page_store.proofs.QueryLemmas.{absent-is}
 
--- a whole page that is written over zeros, and one that is cut nowhere
+-- a whole page that is written over zeros
 whole-piece : (bytes : List ℕ) → length bytes ≡ 4096 → bytes_with_piece zeros 0 bytes ≡ bytes
 whole-piece bytes size =
     let all : 0 + length bytes ≡ 4096 = omega (arith, size) in
     ap (λ (n : ℕ). bytes ++ drop n (replicate 4096 0)) all ∙ ap (λ (l : List ℕ). bytes ++ l) (drop-replicate 4096 4096 0) ∙ append-nil bytes
-
-pub clip-whole : (bytes : List ℕ) → length bytes ≡ 4096 → clip 4096 bytes ≡ bytes
-clip-whole bytes size = ap (λ (l : List ℕ). l ++ []) (take_all 4096 bytes (subst (λ (n : ℕ). length bytes ≤ n) size (le-same (length bytes)))) ∙ append-nil bytes
-  where
-    le-same : (n : ℕ) → n ≤ n
-    le-same n = omega arith
 
 module _ (s : StoreSeen) (name : PageName) (bytes : List ℕ) (frame : ℕ) (sound : IsSoundStore s) (next : next_frame s ≡ Some frame) (absent : residence s name ≡ Absent) (size : length bytes ≡ 4096) where
   pub filled-is : (b : List ℕ) → after_fill s name b true ≡ with_frame_filled s frame name b true

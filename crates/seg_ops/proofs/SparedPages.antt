@@ -35,10 +35,6 @@ waits-home w spaces name frame (Some (Page seat)) f home waits = absurd
 waits-home w spaces name frame (Some (Disk seat)) f home waits = (λ t. absurd (let z : true ≡ false = t in cc), λ d. absurd (let z : bay.home d.0 ≡ bay.out seat = sym d.1 ∙ waits in cc))
 waits-home w spaces name frame (Some (File seat)) f home waits = absurd waits
 
-pub true-of : (b : Bool) → not b ≡ false → b ≡ true
-true-of true h = refl
-true-of false h = absurd (let z : true ≡ false = h in cc)
-
 -- room that is made leaves the disks where they are
 pub room-disk : {D : Type 0} (u v : rust.World D) (spaces : Spaces) (name : PageName) → Fits u spaces → MakesRoom u v
     → bay_at v.store.bays (world_table (world_seen v) name).disk ≡ bay_at u.store.bays (world_table (world_seen u) name).disk

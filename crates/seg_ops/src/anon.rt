@@ -65,6 +65,7 @@ fn fill_bytes<D: Disk>(store: &mut Store<D>, name: PageName, bytes: &[u8])
     requires absent { residence store.old name ≡ Residence.Absent }
     requires slot { name.object ≡ 64 }
     requires size { length bytes.now ≡ 4096 }
+    // The frame that comes next has the page, and what such a step keeps.
     ensures new { store.new ≡ after_fill store.old name bytes.now true }
     ensures laws { FillsPage store.old store.new name true (λ notes table. bytes.now) }
 {

@@ -23,7 +23,7 @@ use Rattle.seg_map.proofs.Waits.{gap-as}
 use Rattle.seg_ops.specs.vm_world.MemoryFits.{MemoryFits}
 use Rattle.seg_ops.specs.vm_world.Segments.{Spaces}
 use Rattle.seg_ops.proofs.vm_world.FileCalls.{file_calls_law}
-use Rattle.seg_map.proofs.Lengthens.{listed-was}
+use Rattle.seg_ops.proofs.SparedPages.{same-listed as listed-was}
 use Rattle.seg_map.proofs.written.write_last.Given.{Over}
 use Rattle.seg_map.proofs.written.write_last.Goals.{After-take_back}
 use Rattle.seg_map.proofs.written.write_last.Goals as goal

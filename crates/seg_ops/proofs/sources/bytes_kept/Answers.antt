@@ -5,7 +5,7 @@ use Rattle.page_store.specs.Steps.{home_bytes}
 use Rattle.page_store.specs.declared.place.Place.{Place}
 use Rattle.vm_world.specs.World.{world_seen, world_table}
 use Rattle.vm_world.specs.WorldSteps.{cut_page}
-use Rattle.seg_ops.proofs.FilledBytes.{clip-whole}
+use Rattle.vm_world.proofs.Clips.{clip-whole}
 use Rattle.seg_ops.proofs.Fills.{held-by}
 use Rattle.seg_ops.proofs.SlotMemory.{home-value_bytes}
 use Rattle.seg_ops.proofs.sources.bytes_kept.Given.{Over}
