@@ -18,7 +18,7 @@ pub invariant_of-self : goal.invariant_of-self
 invariant_of-self g c =
     let before : Memory = record { world = world_seen c.self.inside.world; spaces = c.self.inside.spaces.spaces } in
     let after : Memory = record { world = world_seen c.sync-attempt.new.world; spaces = c.self.inside.spaces.spaces } in
-    let zeros = ap (λ w. w.zeros) c.sync-attempt.ensures.makes.rest in
+    let zeros = ap (λ w. w.zeros) {y = record c.self.inside.world { store = c.sync-attempt.new.world.store; hat = c.sync-attempt.new.world.hat }} c.sync-attempt.ensures.makes.rest in
     let seats = sym (ap (λ (l : List (Option ℕ)). length l) c.look_next.ensures) in (
       subst (λ (n : ℕ). IsSoundKernel c.sync-attempt.new.world.store c.sync-attempt.new.world.zeros c.self.inside.spaces.spaces c.self.inside.ledger.entries n) seats
           (kept-served before after c.self.inside.world.zeros c.sync-attempt.new.world.zeros _ _ [] _ _ _ _ _ c.self.invariant.0 (subst (λ (zs : List (Option ℕ)). KnowsZeros zs c.self.inside.spaces.spaces) (sym zeros) c.self.invariant.0.known) (c.sync-attempt.ensures.serves [])),
@@ -34,7 +34,7 @@ pub returns-clause-own : goal.returns-clause-own
 returns-clause-own g c = synced-own c.args.self.now c.args.process c.sync_start-from.result c.sync-attempt.result (c.sync_start-from.ensures ∙ ap (start_of c.args.self.now) (sym c.requires.own)) c.sync-attempt.ensures.answer
 
 pub returns-clause-slots : goal.returns-clause-slots
-returns-clause-slots g c = ap (λ w. w.anon) c.sync-attempt.ensures.makes.rest ∙ ap (λ (s : KernelState). s.memory.world.anon) c.self.view_is
+returns-clause-slots g c = ap (λ w. w.anon) {y = record c.self.inside.world { store = c.sync-attempt.new.world.store; hat = c.sync-attempt.new.world.hat }} c.sync-attempt.ensures.makes.rest ∙ ap (λ (s : KernelState). s.memory.world.anon) c.self.view_is
 
 pub returns-clause-spaces : goal.returns-clause-spaces
 returns-clause-spaces g c = ap (λ (s : KernelState). s.memory.spaces) c.self.view_is
