@@ -45,8 +45,8 @@ use Rattle.seg_vn.proofs.ServedFaults.{changes-as, changes-kept, fault-whole}
 use Rattle.seg_vn.proofs.FaultPlaces.{kept-own, kept-shared}
 use Rattle.seg_vn.proofs.SlotsDue.{due-none, made-still, slots-kept}
 use Rattle.seg_vn.proofs.FaultSteps.{in-place-still, shows-same}
-use Rattle.seg_vn.proofs.Replacements.{none-replaced, replaced-then}
-use Rattle.seg_vn.proofs.Takes.{takes-none}
+use Rattle.seg_vn.proofs.home_pages.Replacements.{none-replaced, replaced-then}
+use Rattle.seg_vn.proofs.home_pages.Takes.{takes-none}
 use Rattle.fault_entry.specs.Reaching.{may_access, ReachesPage, ReachModifies, ServesAccess, IsSignalDue, after_reach, error_in, step_wanting}
 use Rattle.fault_entry.specs.declared.access.AccessStep.TheVariants as access
 use Rattle.fault_entry.proofs.Targets.{unaligned, unmapped, refused, past, may-reach, none-due}

@@ -39,9 +39,9 @@ use Rattle.seg_vn.specs.declared.attempt.Attempt.TheVariants as attempt
 use Rattle.seg_vn.specs.seg_ops.Faults.{Accesses}
 use Rattle.seg_vn.specs.seg_ops.SlotsDue.{slot_due}
 use Rattle.seg_vn.proofs.FaultSteps.{in-place-still}
-use Rattle.seg_vn.proofs.Replacements.{replaced-then}
+use Rattle.seg_vn.proofs.home_pages.Replacements.{replaced-then}
 use Rattle.seg_vn.proofs.SlotsDue.{made-still}
-use Rattle.seg_vn.proofs.Takes.{takes-there}
+use Rattle.seg_vn.proofs.home_pages.Takes.{takes-there}
 use Rattle.seg_vn.specs.page_store.Seen.{StoreSeen}
 use Rattle.fault_entry.specs.Accesses.{IsShown, IsHit, ServesWord}
 use Rattle.fault_entry.specs.Reaching.{ReachModifies, ServesAccess, IsSignalDue, after_reach, error_in}

@@ -1,4 +1,6 @@
 -- Flat memory that a history reaches.
+use Rattle.flat_model.proofs.WellFormed.{by_refusal}
+use Rattle.flat_model.proofs.WellFormed.{by_signal}
 use Rattle.vnode_files.proofs.GrowLemmas.{some_of}
 use Rattle.std.proofs.Common.{◌≡◌, ℕ, ◌+◌, ◌*◌, ◌<◌, ◌≤◌, ◌||◌, Bool, true, false, cond, List, [], ◌∷◌, length, map, Option, Some, None, Result, Ok, Err, refl, sym, ap, subst, ◌∙◌, inl, inr, arith}
 use Rattle.std.specs.Prelude.{nat_le, is_some, IsSome, option_and_then, sum_by}
@@ -44,7 +46,7 @@ use Rattle.flat_model.proofs.Sums.{total}
 use Rattle.std.proofs.lemmas.List.Sums.{sum_by-cons}
 use Rattle.flat_model.proofs.Mappings.{mapped-map_result}
 use Rattle.flat_model.proofs.Reserve.{unswept, put_in, names_from, names_before, names_before_exit, forked_names, spaces_put_in, named_by_spaces, zeros_cleared, reserved-unmap, reserved-fork, reserved-exit}
-use Rattle.flat_model.proofs.ReserveKept.{named-alike, alike_cell, alike_prots, reserved-others, by_signal, by_refusal}
+use Rattle.flat_model.proofs.ReserveKept.{named-alike, alike_cell, alike_prots, reserved-others}
 use Rattle.flat_model.proofs.Frames.{StepFrame-step, child_none}
 use Rattle.flat_model.proofs.Lives.{AreBorn-step}
 

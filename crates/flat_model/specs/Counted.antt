@@ -11,7 +11,7 @@ top_count = 2 ^ 64 - 1
 abbrev pub IsCountedRise : ℕ → ℕ → Type 0
 IsCountedRise before after = (before < after) ⊎ ((before ≡ top_count) × (after ≡ top_count))
 
--- In each device error the disk's count rose during the transfer, and of two errors of one disk the earlier one's count after its transfer isn't above the later one's before.
+-- Each device error names two counts of its disk, of which the second is greater, or both are a count's end; and of two errors of one disk the earlier one's second count isn't above the later one's first.
 pub record Counted (H : List Entry) : Type 0 where
   pub risen : (k : ℕ) (e : Entry) (disk before after : ℕ) → slice_get H k ≡ Some e → e.reply ≡ Io disk before after → IsCountedRise before after
   pub ordered : (j k : ℕ) (d e : Entry) (disk b after before a : ℕ) → j < k → slice_get H j ≡ Some d → slice_get H k ≡ Some e → d.reply ≡ Io disk b after → e.reply ≡ Io disk before a → after ≤ before

@@ -126,7 +126,7 @@ names_object z (object.Zero y) = refl
 names_object z (object.File f) = refl
 names_object z object.NewZero = refl
 
-pub flat_with : finite.FinMap nat_cmp Space → Flat
+unfoldable pub flat_with : finite.FinMap nat_cmp Space → Flat
 flat_with spaces = record { slots = 0; disks = finite.empty; files = []; zeros = finite.empty; spaces = spaces; born = finite.empty }
 
 -- some cell names the zero object, space by space

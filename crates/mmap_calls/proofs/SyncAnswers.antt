@@ -41,8 +41,8 @@ use Rattle.seg_vn.proofs.seg_ops.StillSteps.{memory_of}
 use Rattle.seg_vn.specs.CleanPlaces.{SharesFilePage}
 use Rattle.seg_vn.specs.Serves.{Serves}
 use Rattle.seg_vn.specs.declared.attempt.Attempt.{Attempt}
-use Rattle.seg_vn.proofs.Replacements.{none-replaced}
-use Rattle.seg_vn.proofs.Takes.{takes-none}
+use Rattle.seg_vn.proofs.home_pages.Replacements.{none-replaced}
+use Rattle.seg_vn.proofs.home_pages.Takes.{takes-none}
 use Rattle.mmap_calls.specs.Calls.{ChangesMappings, IsDoneAtOnce, IsMappingAnswer, IsMappingCall, IsSyncAnswer, attempt_wanting}
 use Rattle.mmap_calls.specs.Protections.{AreMapped}
 use Rattle.mmap_calls.specs.SyncRanges.{AreClean, CleansRange, WantsFirstAt}

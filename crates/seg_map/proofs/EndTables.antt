@@ -1,5 +1,5 @@
 -- THE TABLE OF PLACES once a file got another end, and files that fit.
-use Rattle.std.proofs.Common.{◌≡◌, ◌≢◌, ℕ, ◌+◌, ◌^◌, ◌<◌, ◌≤◌, ◌==◌, ◌&&◌, Bool, true, false, cond, List, [], ◌∷◌, length, map, Option, Some, None, refl, sym, ap, ◌∙◌, ◌⊎◌, inl, inr, subst, arith, zero, suc}
+use Rattle.std.proofs.Common.{◌≡◌, ◌≢◌, ℕ, ◌+◌, ◌^◌, ◌<◌, ◌≤◌, ◌==◌, ◌&&◌, Bool, false, cond, List, [], ◌∷◌, length, map, Option, Some, None, refl, sym, ap, ◌∙◌, ◌⊎◌, inl, inr, subst, arith, zero, suc}
 use Rattle.std.specs.Prelude.{IsTrue, IsSome, All, option_map, option_and_then, slice_get, slice_index_or, nat_lt, not, unwrap_or}
 use Rattle.std.specs.FinMap as finite
 use Rattle.std.specs.Ordering.{nat_cmp}
@@ -8,7 +8,7 @@ use Rattle.std.proofs.lemmas.Bool.Decides.{eqb_tells}
 use Rattle.std.proofs.lemmas.List.{length-map}
 use Rattle.std.proofs.lemmas.Option.{slice_get-map, slice_get_within, slice_get_cases}
 use Rattle.seg_ops.specs.page_hash.declared.PageName.{PageName}
-use Rattle.seg_ops.specs.page_store.Layout.{FileBlocks, KeepsPage, file_page_place, page_place, slot_place, own_place, is_slot, table_of}
+use Rattle.seg_ops.specs.page_store.Layout.{FileBlocks, KeepsPage, file_page_place, page_place, slot_place, own_place, is_slot}
 use Rattle.seg_ops.specs.page_store.declared.place.Place.{Place}
 use Rattle.seg_ops.proofs.page_store.LayoutLemmas.{place-cases}
 use Rattle.seg_ops.specs.anon_slots.Slots.{AnonSlotsSeen, count_at, is_used}
@@ -25,7 +25,6 @@ use Rattle.seg_ops.specs.vm_world.FramesFit.{FilesFit}
 use Rattle.seg_ops.specs.vm_world.State.{FileMode}
 use Rattle.seg_ops.specs.vm_world.World.{file_blocks, file_name, is_unpushed, is_page_name, page_exists, page_table}
 use Rattle.seg_ops.proofs.vm_world.PageNames.{not-slot, index-of, file-there, file-apart, file-place, page-cases, keeps-page}
-use Rattle.seg_ops.proofs.Marks.{SameSpot, page-spot as spot-of}
 use Rattle.seg_map.specs.Ends.{SetsEnd, valid_in}
 
 -- a page that a file keeps, told by the files
@@ -96,19 +95,6 @@ placed-page files anon name fit low = elim (place-cases (map file_blocks files.f
                   | inr x ↦ ap (λ (c : Bool). c && nat_lt name.page (length anon.counts)) x.0
                   | inl y ↦ ap (λ (c : Bool). c && nat_lt name.page (length anon.counts)) y.0 ∙ le-ltb name.page (length anon.counts) le
                 ]
-
-pub spot-any : (files : List FileBlocks) (slots : ℕ) (n : PageName) (a b : PageName → Bool) → SameSpot (table_of files slots a n) (table_of files slots b n)
-spot-any files slots n a b = by_file (slice_get files n.object) (by_slot (is_slot slots n))
-  where
-    by_slot : (s : Bool) → SameSpot (cond s (slot_place n.page (a n)) (own_place n)) (cond s (slot_place n.page (b n)) (own_place n))
-    by_slot true = record { disk = refl; block = refl; valid = refl }
-    by_slot false = record { disk = refl; block = refl; valid = refl }
-
-    by_file : (o : Option FileBlocks) → SameSpot (cond (is_slot slots n) (slot_place n.page (a n)) (own_place n)) (cond (is_slot slots n) (slot_place n.page (b n)) (own_place n))
-        → SameSpot (unwrap_or (option_and_then (λ file. option_map (page_place file n.page (a n)) (slice_get file.blocks n.page)) o) (cond (is_slot slots n) (slot_place n.page (a n)) (own_place n)))
-        (unwrap_or (option_and_then (λ file. option_map (page_place file n.page (b n)) (slice_get file.blocks n.page)) o) (cond (is_slot slots n) (slot_place n.page (b n)) (own_place n)))
-    by_file None same = same
-    by_file (Some file) same = spot-of file n.page (a n) (b n) (slice_get file.blocks n.page) (cond (is_slot slots n) (slot_place n.page (a n)) (own_place n)) (cond (is_slot slots n) (slot_place n.page (b n)) (own_place n)) same
 
 -- FILES THAT LIE ON THEIR DISKS, apart, fit.
 pub lie-fit : (files : FilesSeen) → ((number blocks : ℕ) → finite.get files.disks number ≡ Some blocks → blocks < 2 ^ 20) → ((f : ℕ) → f < length files.files → IsSoundVnode (vnode_at files f)) → length files.files ≤ 64 → ((f : ℕ) → f < length files.files → (vnode_at files f).info.disk < 8)

@@ -5,7 +5,7 @@ use Rattle.std.specs.Prelude.{IsTrue, IsFalse, ◌↔◌, option_map, slice_get,
 use Rattle.std.specs.FinMap as finite
 use Rattle.std.specs.Ordering.{nat_cmp}
 use Rattle.std.proofs.lemmas.Bool.{cases_eq, lt-ltb, ltb-true, le-ltb, cases_lt}
-use Rattle.std.proofs.lemmas.List.{length-append, length-replicate, replicate-append-replicate, take-append-le, take-replicate, take-take}
+use Rattle.std.proofs.lemmas.List.{length-append, length-replicate, take-append-le, take-take}
 use Rattle.std.proofs.lemmas.List.Elements.{All-append, All-replicate}
 use Rattle.std.proofs.lemmas.Option.{slice_get-map, slice_get_past as past-list}
 use Rattle.seg_ops.specs.core_arena.Bytes.{bytes_at, zeros}

@@ -8,4 +8,5 @@ pub mod Blanking
 pub mod Lengthens
 pub mod Shortens
 pub mod Readies
+pub mod Waits
 pub mod Truncates

@@ -1,6 +1,6 @@
 -- BYTES ARE PUT into a page of a file that is home, which is modified then.
-use Rattle.std.proofs.Common.{◌≡◌, ◌≢◌, ℕ, ◌+◌, ◌<◌, ◌≤◌, ◌||◌, Bool, true, false, cond, List, [], ◌∷◌, ◌++◌, length, Option, Some, None, refl, sym, ap, ◌∙◌, inl, inr, subst, get_or-set_same, arith, zero, suc}
-use Rattle.std.specs.Prelude.{IsTrue, IsSome, is_some, option_map, slice_get, nat_lt, unwrap_or, take, drop, All}
+use Rattle.std.proofs.Common.{◌≡◌, ◌≢◌, ℕ, ◌+◌, ◌-◌, ◌<◌, ◌≤◌, ◌||◌, Bool, true, false, cond, List, [], ◌∷◌, ◌++◌, length, Option, Some, refl, sym, ap, ◌∙◌, inl, inr, subst, get_or-set_same, arith, zero, suc}
+use Rattle.std.specs.Prelude.{IsTrue, IsSome, is_some, option_map, slice_get, nat_lt, take, drop, All}
 use Rattle.std.proofs.lemmas.Bool.{cases_eq, lt-ltb, ltb-true, cases_lt}
 use Rattle.std.proofs.lemmas.Bool.Decides.{eqb_tells}
 use Rattle.std.proofs.lemmas.List.{get_or-set_other, length-append, length-take, length-drop}
@@ -13,12 +13,9 @@ use Rattle.seg_ops.specs.page_lock.Rows.{row_at, clear_row, with_bits}
 use Rattle.seg_ops.specs.page_lock.declared.Row.{Row}
 use Rattle.seg_ops.specs.page_store.Laws.{Pokes}
 use Rattle.seg_ops.specs.page_store.Moves.{is_only}
-use Rattle.seg_ops.specs.page_store.Bays.{BaySeen}
-use Rattle.seg_ops.specs.page_store.Notes.{Note, Notes}
-use Rattle.seg_ops.specs.page_store.Seen.{StoreSeen, IsListedFrame, own_frame, residence}
+use Rattle.seg_ops.specs.page_store.Notes.{Notes}
+use Rattle.seg_ops.specs.page_store.Seen.{StoreSeen, IsListedFrame, residence}
 use Rattle.seg_ops.specs.page_store.Steps.{with_piece}
-use Rattle.seg_ops.specs.page_store.Transfers.{is_rewritten_in}
-use Rattle.seg_ops.specs.page_store.Value.{backing_value, tells}
 use Rattle.seg_ops.specs.page_store.declared.residence.Residence.TheVariants.{Home}
 use Rattle.seg_ops.proofs.page_store.QueryLemmas.{home-is, found-within}
 use Rattle.seg_ops.specs.anon_slots.Slots.{count_at, is_used}
@@ -29,18 +26,17 @@ use Rattle.seg_ops.proofs.flat_model.WellFormed.{Each, Each-All, All-Each}
 use Rattle.seg_ops.proofs.flat_model.Bytes.{slice_get-with_change_at, slice_get-changed_apart}
 use Rattle.seg_ops.specs.vm_world.FileSteps.{file_seen, ChangesFile}
 use Rattle.seg_ops.specs.vm_world.FlatMemory.{pages_from}
-use Rattle.seg_ops.specs.vm_world.FramesFit.{DisksFit}
 use Rattle.seg_ops.specs.vm_world.MemoryFits.{MemoryFits}
-use Rattle.seg_ops.specs.vm_world.NotesFit.{NotesFit, PushFits}
+use Rattle.seg_ops.specs.vm_world.NotesFit.{NotesFit}
 use Rattle.seg_ops.specs.vm_world.Pages.{page_value, file_contents}
 use Rattle.seg_ops.specs.vm_world.Segments.{Spaces}
-use Rattle.seg_ops.specs.vm_world.TranslationsFit.{TranslationsFit, HasWritten, IsModified}
-use Rattle.seg_ops.specs.vm_world.World.{World, core_of, world_table, file_name, slot_name, page_exists, AllTell}
+use Rattle.seg_ops.specs.vm_world.TranslationsFit.{TranslationsFit}
+use Rattle.seg_ops.specs.vm_world.World.{World, core_of, world_table, file_name, page_exists, AllTell}
 use Rattle.seg_ops.proofs.vm_world.FilePages.{page-in, page-past}
 use Rattle.seg_ops.proofs.vm_world.FileSteps.{same-lists}
 use Rattle.seg_ops.proofs.vm_world.FrameRule.{exists-page}
 use Rattle.seg_ops.proofs.vm_world.PageNames.{not-slot, file-apart}
-use Rattle.seg_ops.proofs.StillSteps.{KeepsRow, with_tables, memory_of, same-row, translation-kept, gone-kept, tell-kept, value-is}
+use Rattle.seg_ops.proofs.StillSteps.{KeepsFrames, KeepsRow, IsMarked, with_tables, memory_of, same-row, translation-kept, memory-kept, notes-kept, tell-kept, value-is}
 use Rattle.seg_ops.specs.vm_world.Serving.{ModifiesOnly}
 use Rattle.seg_ops.proofs.vm_world.FlatWhole.{some-inj}
 use Rattle.seg_map.specs.Ends.{IsReadyPage}
@@ -68,116 +64,45 @@ module _ (w : World) (spaces : Spaces) (new : StoreSeen) (f i frame at : ℕ) (b
   or-true true = refl
   or-true false = refl
 
-  modified-here : (row_at new.rows frame).modified ≡ true
-  modified-here = ap (λ (r : Row). r.modified) row-here
-
-  rewritten-here : (row_at new.rows frame).rewritten ≡ true
-  rewritten-here = ap (λ (r : Row). r.rewritten) row-here ∙ or-true (row_at w.store.rows frame).rewritten
-
-  rows : (k : ℕ) → KeepsRow (row_at w.store.rows k) (row_at new.rows k)
-  rows k = elim (cases_eq k frame) [
-    | inl e ↦ subst (λ (j : ℕ). KeepsRow (row_at w.store.rows j) (row_at new.rows j)) (sym e) (record { keeps = ap (λ (r : Row). r.keeps) row-here; gone = ap (λ (r : Row). r.gone) row-here; source = ap (λ (r : Row). r.source) row-here; rewritten = λ h. rewritten-here })
-    | inr ne ↦ same-row (row_at w.store.rows k) (row_at new.rows k) (row-else k ne)
-  ]
+  marked : IsMarked new frame
+  marked = record {
+    modified = ap (λ (r : Row). r.modified) row-here;
+    rewritten = ap (λ (r : Row). r.rewritten) row-here ∙ or-true (row_at w.store.rows frame).rewritten;
+    home = let h = home-is new name frame (laws.residence name ∙ home) in ap (λ (o : Option (List ℕ)). is_some o) h.there;
+  }
 
   listed : (k : ℕ) → IsListedFrame new k → IsListedFrame w.store k
   listed k l = subst (λ (x : StoreSeen). IsListedFrame x k) step l
 
-  named : (k : ℕ) (m : PageName) → name_at new.names k ≡ Some m → name_at w.store.names k ≡ Some m
-  named k m h = ap (λ (x : StoreSeen). name_at x.names k) (sym step) ∙ h
-
-  bytes-else : (k : ℕ) → k ≢ frame → bytes_at new.frames k ≡ bytes_at w.store.frames k
-  bytes-else k ne = laws.touches.bytes k (ap (λ (o : Option ℕ). is_only o k) found ∙ elim (eqb_tells k frame) [ inl same ↦ absurd (ne same.1) | inr other ↦ other.0 ])
-
-  modified-kept : (k : ℕ) → IsModified w.store w.hat.places k → IsModified new w.hat.places k
-  modified-kept k m = elim (cases_eq k frame) [
-    | inl e ↦ inl (ap (λ (j : ℕ). (row_at new.rows j).modified) e ∙ modified-here)
-    | inr ne ↦ elim m [ inl r ↦ inl (ap (λ (r : Row). r.modified) (row-else k ne) ∙ r) | inr x ↦ inr x ]
-  ]
+  keeps : KeepsFrames w.store new w.hat.places w.hat.places
+  keeps = record {
+    sound = laws.sound;
+    core = ap core_of step;
+    frames = laws.touches.frames;
+    names = ap (λ (x : StoreSeen). x.names) step;
+    bays = laws.outside.bays;
+    rows = λ k. elim (cases_eq k frame) [
+      | inl e ↦ subst (λ (j : ℕ). KeepsRow (row_at w.store.rows j) (row_at new.rows j)) (sym e) (record { keeps = ap (λ (r : Row). r.keeps) row-here; gone = ap (λ (r : Row). r.gone) row-here; source = ap (λ (r : Row). r.source) row-here; rewritten = λ h. marked.rewritten })
+      | inr ne ↦ same-row (row_at w.store.rows k) (row_at new.rows k) (row-else k ne)
+    ];
+    unmodified = λ k l. elim (cases_eq k frame) [
+      | inl e ↦ absurd (unlisted (subst (λ (j : ℕ). IsListedFrame w.store j) e (listed k l)))
+      | inr ne ↦ ap (λ (r : Row). r.modified) (row-else k ne) ∙ fits.frames.unmodified k (listed k l)
+    ];
+    residence = laws.residence;
+    modified = λ k m. elim (cases_eq k frame) [
+      | inl e ↦ inl (ap (λ (j : ℕ). (row_at new.rows j).modified) e ∙ marked.modified)
+      | inr ne ↦ elim m [ inl r ↦ inl (ap (λ (r : Row). r.modified) (row-else k ne) ∙ r) | inr x ↦ inr x ]
+    ];
+    written = λ k x. inr x;
+    bytes = λ k. elim (cases_eq k frame) [
+      | inl e ↦ inr (inr (subst (λ (j : ℕ). IsMarked new j × IsSome (bytes_at w.store.frames j)) (sym e) (marked, let h = home-is w.store name frame home in ap (λ (o : Option (List ℕ)). is_some o) h.there)))
+      | inr ne ↦ inl (laws.touches.bytes k (ap (λ (o : Option ℕ). is_only o k) found ∙ elim (eqb_tells k frame) [ inl same ↦ absurd (ne same.1) | inr other ↦ other.0 ]))
+    ];
+  }
 
   translations : TranslationsFit new w.anon w.maps spaces w.hat.places
   translations = λ j t is. translation-kept w.store new w.anon w.maps spaces t laws.residence (listed t.frame) (fits.translations j t is)
-
-  -- MEMORY FITS: the frame's page is modified.
-  put-memory : MemoryFits (memory_of (with_tables w new w.hat) spaces)
-  put-memory = record {
-    frames = record {
-      sound = laws.sound;
-      unkept = λ k. (rows k).keeps ∙ fits.frames.unkept k;
-      unmodified = λ k l. elim (cases_eq k frame) [
-        | inl e ↦ absurd (unlisted (subst (λ (j : ℕ). IsListedFrame w.store j) e (listed k l)))
-        | inr ne ↦ ap (λ (r : Row). r.modified) (row-else k ne) ∙ fits.frames.unmodified k (listed k l)
-      ];
-      exist = λ k m h. fits.frames.exist k m (named k m h);
-    };
-    files = fits.files;
-    disks = subst (λ (b : List BaySeen). DisksFit b w.files.disks (length w.anon.counts)) (sym laws.outside.bays) fits.disks;
-    pool = record { leads = fits.pool.leads ∙ sym laws.touches.frames; single = fits.pool.single };
-    translations = translations;
-    unpushed = λ k slot h unpushed there. elim (cases_eq k frame) [
-      | inl e ↦ inl (ap (λ (j : ℕ). (row_at new.rows j).modified) e ∙ modified-here)
-      | inr ne ↦ modified-kept k (fits.unpushed k slot (named k (slot_name slot) h) unpushed (subst (λ (b : Option (List ℕ)). IsSome b) (bytes-else k ne) there))
-    ];
-    counts = fits.counts;
-    segments = fits.segments;
-  }
-
-  -- THE NOTES FIT: a push that has a snapshot of the page is one whose page was rewritten.
-  home-some : IsSome (bytes_at w.store.frames frame)
-  home-some = let h = home-is w.store name frame home in ap (λ (o : Option (List ℕ)). is_some o) h.there
-
-  put-push : (note : Note) → bytes_at w.store.frames note.frame ≡ None → PushFits w.store w.hat.places (world_table w) note → PushFits new w.hat.places (world_table w) note
-  put-push note away p = record {
-    pushed = p.pushed;
-    same = elim (cases_eq (own_frame w.store note.frame) frame) [
-      | inl e ↦ inl (inl (ap (λ (o : Option ℕ). is_rewritten_in o new) source ∙ of-own (row_at w.store.rows note.frame).source e))
-      | inr ne ↦ elim p.same [
-        | inl r ↦ inl (elim r [
-          | inl was ↦ inl (ap (λ (o : Option ℕ). is_rewritten_in o new) source ∙ kept (row_at w.store.rows note.frame).source was)
-          | inr x ↦ inr (subst (λ (k : ℕ). HasWritten w.hat.places k) (sym own) x)
-        ])
-        | inr sent ↦ inr (record { valid = sent.valid; bytes = λ b h. sent.bytes b (sym (bytes-else (own_frame w.store note.frame) ne) ∙ ap (λ (k : ℕ). bytes_at new.frames k) (sym own) ∙ h) })
-      ]
-    ];
-  }
-    where
-      source : (row_at new.rows note.frame).source ≡ (row_at w.store.rows note.frame).source
-      source = (rows note.frame).source
-
-      own : own_frame new note.frame ≡ own_frame w.store note.frame
-      own = ap (λ (o : Option ℕ). unwrap_or o note.frame) source
-
-      kept : (o : Option ℕ) → is_rewritten_in o w.store ≡ true → is_rewritten_in o new ≡ true
-      kept None h = absurd (let z : false ≡ true = h in cc)
-      kept (Some k) h = (rows k).rewritten h
-
-      not-home : (b : Option (List ℕ)) → IsSome b → b ≡ None → ⊥
-      not-home None some e = let z : false ≡ true = some in cc
-      not-home (Some b) some e = cc
-
-      -- the page is home in that frame, and the push's own frame is away
-      of-own : (o : Option ℕ) → unwrap_or o note.frame ≡ frame → is_rewritten_in o new ≡ true
-      of-own None e = absurd (not-home (bytes_at w.store.frames frame) home-some (ap (bytes_at w.store.frames) (sym e) ∙ away))
-      of-own (Some k) e = ap (λ (j : ℕ). (row_at new.rows j).rewritten) e ∙ rewritten-here
-
-  put-notes : (notes : Notes) → NotesFit w notes → NotesFit (with_tables w new w.hat) notes
-  put-notes notes nf = record {
-    stored = (laws.others notes (world_table w) nf.stored).fits;
-    clean = λ k m h there. elim (cases_eq k frame) [
-      | inl e ↦ inl (inl (ap (λ (j : ℕ). (row_at new.rows j).modified) e ∙ modified-here))
-      | inr ne ↦ elim (nf.clean k m (named k m h) (subst (λ (b : Option (List ℕ)). IsSome b) (bytes-else k ne) there)) [
-        | inl x ↦ inl (modified-kept k x)
-        | inr c ↦ inr (record {
-          same = λ tell b at. c.same (subst (λ (x : Bool). IsTrue x) (ap (λ (bs : List BaySeen). tells (record w.store { bays = bs }) notes (world_table w m).disk) laws.outside.bays) tell) b (sym (bytes-else k ne) ∙ at)
-              ∙ sym (ap (λ (bs : List BaySeen). backing_value (record w.store { bays = bs }) notes (world_table w m)) laws.outside.bays);
-          unwritten = λ seat note is writes same. let u = c.unwritten seat note is writes same in ((rows note.frame).gone ∙ u.0, u.1);
-        })
-      ]
-    ];
-    pushes = λ seat note is writes stands. put-push note (nf.stored.each_note seat note is).away (nf.pushes seat note is writes (λ gone. stands ((rows note.frame).gone ∙ gone)));
-    gone = λ seat note is writes gone. gone-kept w new note.name laws.residence (nf.gone seat note is writes (sym (rows note.frame).gone ∙ gone));
-    sizes = nf.sizes;
-  }
 
   exists : IsTrue (page_exists w.files w.anon name)
   exists = fits.frames.exist frame name (find-at w.store.names name frame found)
@@ -236,13 +161,13 @@ module _ (w : World) (spaces : Spaces) (new : StoreSeen) (f i frame at : ℕ) (b
 
   pub put-changes : ChangesFile f (memory_of w spaces) (memory_of v spaces) (with_bytes_in i at bytes)
   put-changes = record {
-    machine = record { core = ap core_of step; frames = laws.touches.frames; slots = refl; disks = refl; modes = refl; bays = laws.outside.bays };
+    machine = record { core = keeps.core; frames = keeps.frames; slots = refl; disks = refl; modes = refl; bays = keeps.bays };
     spaces = refl;
     maps = refl;
     counts = refl;
     infos = λ k ne. refl;
-    memory = put-memory;
-    notes = put-notes;
+    memory = memory-kept w spaces new w.hat fits keeps refl fits.pool.single translations;
+    notes = λ notes nf. notes-kept w spaces new w.hat notes fits keeps (laws.others notes (world_table w) nf.stored).fits nf;
     tells = λ notes nf. tell-kept w new w.hat notes (laws.others notes (world_table w) nf.stored).alike;
     others = λ notes m nf tell ne ex. put-else notes m nf tell (λ e. ne (ap (λ (x : PageName). x.object) e)) ex;
     file = λ notes nf tell file. (
@@ -269,7 +194,7 @@ module _ (w : World) (spaces : Spaces) (new : StoreSeen) (f i frame at : ℕ) (b
 
   -- The page is ready, and no other page becomes modified.
   pub put-ready : IsReadyPage v name
-  put-ready = record { frame = frame; home = laws.residence name ∙ home; unlisted = λ l. unlisted (listed frame l); modified = modified-here; rewritten = rewritten-here }
+  put-ready = record { frame = frame; home = laws.residence name ∙ home; unlisted = λ l. unlisted (listed frame l); modified = marked.modified; rewritten = marked.rewritten }
 
   pub put-modifies : ModifiesOnly (λ m. m ≡ name) w v
   put-modifies = λ m k at x.

@@ -1,9 +1,6 @@
 -- WHAT IS ANSWERED TO A TRUNCATE: it is done, or the page that it wants comes home first.
-use Rattle.std.proofs.Common.{◌≡◌, ◌≢◌, ℕ, ◌-◌, ◌%◌, ◌<◌, ◌≤◌, Bool, true, false, List, length, Option, Some, None, refl, sym, ap, ◌∙◌, ◌⊎◌, inl, inr, subst, arith}
-use Rattle.std.specs.Prelude.{IsTrue, IsFalse, IsSome, ◌||◌, option_map}
-use Rattle.seg_ops.specs.page_hash.Names.{find}
+use Rattle.std.proofs.Common.{◌≡◌, ◌≢◌, ℕ, ◌-◌, ◌%◌, ◌<◌, List, length, Some, None, refl, sym, ap, ◌∙◌, ◌⊎◌, inl, inr, subst, arith}
 use Rattle.seg_ops.specs.page_hash.declared.PageName.{PageName}
-use Rattle.seg_ops.specs.page_store.Laws.{SameResidence}
 use Rattle.seg_ops.specs.page_store.Seen.{residence}
 use Rattle.seg_ops.specs.page_store.declared.plan.Hold.TheVariants as hold
 use Rattle.seg_ops.specs.page_store.declared.residence.Residence.TheVariants.{Home, Moving}
@@ -12,59 +9,42 @@ use Rattle.seg_ops.specs.vm_types.declared.call.Reply.TheVariants as reply
 use Rattle.seg_ops.specs.vnode_files.declared.extent.Extent.{Extent}
 use Rattle.seg_ops.specs.vnode_files.Files.{FilesSeen, vnode_at, growth_of}
 use Rattle.seg_ops.specs.flat_model.Parts.{file_of_length, with_extents_of}
-use Rattle.seg_ops.specs.flat_model.Step.{is_bit_set}
 use Rattle.seg_ops.specs.flat_model.Words.{page, pages_in}
 use Rattle.seg_ops.specs.vm_world.FileCalls.{room_refusal}
 use Rattle.seg_ops.specs.vm_world.FileSteps.{ChangesFile}
 use Rattle.seg_ops.specs.vm_world.MemoryFits.{MemoryFits}
 use Rattle.seg_ops.specs.vm_world.Plans.{IsRefusal}
 use Rattle.seg_ops.specs.vm_world.Segments.{Spaces}
-use Rattle.seg_ops.specs.vm_world.Serving.{AreReplaced, ModifiesNone, ModifiesOnly, ServesDone, TakesFrames}
-use Rattle.seg_ops.specs.vm_world.Wants.{CutWants, GrowthWants, HasRoomFor, IsCutPage, IsGapPage, WantsHome}
+use Rattle.seg_ops.specs.vm_world.Serving.{ModifiesNone, ModifiesOnly, ServesDone}
+use Rattle.seg_ops.specs.vm_world.Wants.{GrowthWants, HasRoomFor, IsCutPage, IsGapPage, WantsHome}
 use Rattle.seg_ops.specs.vm_world.Words.{KeepsPages}
-use Rattle.seg_ops.specs.vm_world.World.{World, file_name, is_unpushed}
+use Rattle.seg_ops.specs.vm_world.World.{World, file_name}
 use Rattle.seg_ops.specs.vm_world.declared.wants.Wants.{Wants}
-use Rattle.seg_ops.specs.vm_world.declared.wants.Wants.TheVariants.{Transfer, Seat}
+use Rattle.seg_ops.specs.vm_world.declared.wants.Wants.TheVariants.{Seat}
 use Rattle.seg_ops.proofs.vm_world.FileCalls.{file_calls_law}
 use Rattle.seg_ops.specs.Plans.{FetchesPage}
 use Rattle.seg_ops.proofs.Composed.{keeps-same}
+use Rattle.seg_ops.proofs.vnode_files.GrowLemmas.{some_of}
 use Rattle.seg_ops.proofs.NewlyModified.{none-then}
 use Rattle.seg_ops.proofs.StillSteps.{memory_of}
+use Rattle.home_pages.proofs.Takes.{takes-none}
+use Rattle.home_pages.proofs.Replacements.{none-replaced}
 use Rattle.seg_map.specs.Served.{ServesWant}
-
--- NO FRAME IS TAKEN.
-or-false : (b : Bool) → (b || false) ≡ b
-or-false true = refl
-or-false false = refl
-
-abbrev pub takes-none : (old new : World) (spaces : Spaces) (pending : ℕ) → KeepsPages old new spaces → TakesFrames (memory_of old spaces) new pending pending
-takes-none old new spaces pending keeps = record {
-  cut = λ name. false;
-  step = keeps;
-  pends = record { bits = λ g lt. sym (or-false (is_bit_set pending g)); below = λ below. below };
-  took = λ name cut. absurd (let z : false ≡ true = cut in cc);
-}
-
-pub none-replaced : (old new : World) → AreReplaced old new (λ name. false)
-none-replaced old new name cut = absurd (let z : false ≡ true = cut in cc)
-
-some-of : {A : Type 0} (o : Option A) → IsSome o → (x : A) × (o ≡ Some x)
-some-of None is = absurd (let z : false ≡ true = is in cc)
-some-of (Some x) is = (x, refl)
+use Rattle.seg_map.proofs.Waits.{growth-as, none-due, waits}
 
 module _ (old : World) (spaces : Spaces) (pending p f n : ℕ) (fits : MemoryFits (memory_of old spaces)) (served : room_refusal old.files f n ≡ None) where
   room : HasRoomFor old.files f n
   room = file_calls_law.room old.files f n served
 
   due-none : IsRefusal (memory_of old spaces) p (Truncate f n) None
-  due-none = λ born notes. file_calls_law.due p (Truncate f n) f (memory_of old spaces) fits refl born notes ∙ ap (option_map reply.Refused) served
+  due-none = none-due old spaces p f (Truncate f n) fits refl served
 
   -- IT IS DONE, after a step that keeps all pages.
   pub done : (u new : World) → KeepsPages old u spaces → ModifiesNone old u → u.files ≡ old.files
       → ((extents : List Extent) → growth_of u.files f (pages_in n) ≡ Some extents → ChangesFile f (memory_of u spaces) (memory_of new spaces) (λ file. file_of_length n (with_extents_of extents file)))
       → ModifiesOnly (λ name. IsGapPage old f n name ⊎ IsCutPage old f n name) u new → ServesDone (memory_of old spaces) (memory_of new spaces) pending pending p (Truncate f n) reply.Done
   done u new keeps none files changes only =
-      let g = some-of (growth_of old.files f (pages_in n)) room.room in
+      let g = some_of (growth_of old.files f (pages_in n)) room.room in
       let grown : growth_of u.files f (pages_in n) ≡ Some g.0 = ap (λ (fs : FilesSeen). growth_of fs f (pages_in n)) files ∙ g.1 in
       record {
         mid = u;
@@ -84,17 +64,7 @@ module _ (old : World) (spaces : Spaces) (pending p f n : ℕ) (fits : MemoryFit
     wants-still : WantsHome (memory_of new spaces) p (Truncate f n) name
     wants-still = (
       subst (λ (fs : FilesSeen). HasRoomFor fs f n) (sym files) room,
-      inl (record {
-        gap = record {
-          longer = subst (λ (l : ℕ). l < n) (sym same-length) wants.gap.longer;
-          tail = subst (λ (l : ℕ). l % 4096 ≢ 0) (sym same-length) wants.gap.tail;
-          last = wants.gap.last ∙ ap (λ (l : ℕ). file_name f (page l)) (sym same-length);
-        };
-        held = elim wants.held [
-          | inl pushed ↦ inl ((λ j. is_unpushed (files j) (anon j) name) ∙ pushed)
-          | inr held ↦ inr (subst (λ (ns : List (Option PageName)). IsSome (find ns name)) (sym names) held)
-        ];
-      }),
+      inl (growth-as old new f n name files anon names wants),
     )
 
     -- and no other page is
@@ -106,24 +76,9 @@ module _ (old : World) (spaces : Spaces) (pending p f n : ℕ) (fits : MemoryFit
 
     -- WHAT MUST COME FIRST is that the page, which isn't home, comes home.
     pub fetches : (want : Wants) → ((frame : ℕ) → residence old.store name ≢ Home frame) → FetchesPage (memory_of new spaces) name want → ServesWant (memory_of old spaces) (memory_of new spaces) pending pending p (Truncate f n) want
-    fetches (Transfer plan) away needs = record {
-      first = takes-none old new spaces pending keeps;
-      replaced = none-replaced old new;
-      spaces = refl;
-      runs = record { may = needs.may (p, Truncate f n) wants-still; ready = needs.ready; frame = needs.frame };
-      fault = file_calls_law.faults p (Truncate f n) f (memory_of new spaces) keeps.memory refl (ap (λ (fs : FilesSeen). room_refusal fs f n) files ∙ served);
-      refusal = due-none;
-      wanted = λ m frame w home. absurd (away frame (ap (residence old.store) (sym (only-wanted m w)) ∙ home));
-      modified = none;
-    }
-    fetches (Seat h) away needs = λ calls. record {
-      first = takes-none old new spaces pending keeps;
-      replaced = none-replaced old new;
-      spaces = refl;
-      holds = needs calls (p, Truncate f n) wants-still;
-      refusal = λ file. due-none;
-      modified = none;
-    }
+    fetches want away needs =
+        waits old new spaces pending pending p f (Truncate f n) name want (takes-none old new spaces pending keeps) fits refl served files (none-replaced old new) none wants-still
+        (λ m frame w home. absurd (away frame (ap (residence old.store) (sym (only-wanted m w)) ∙ home))) needs
 
   -- THE NEW LAST PAGE IS MOVING.
   pub tail-moves : (seat : ℕ) → n < (vnode_at old.files f).info.length → n % 4096 ≢ 0 → residence old.store (file_name f (page n)) ≡ Moving seat

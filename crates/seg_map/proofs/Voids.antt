@@ -55,8 +55,7 @@ use Rattle.seg_ops.proofs.vm_world.PageNames.{not-slot, file-apart, below-kept}
 use Rattle.seg_ops.proofs.vm_world.StoredPages.{zeros-are}
 use Rattle.seg_ops.proofs.Fills.{Elsewhere, held-by, rewritten-same, blank-is}
 use Rattle.seg_ops.proofs.GivenUp.{GivesUp}
-use Rattle.seg_ops.proofs.Marks.{SameSpot, cases-name}
-use Rattle.seg_map.proofs.EndTables.{spot-any}
+use Rattle.seg_ops.proofs.Marks.{SameSpot, cases-name, spot-any}
 use Rattle.seg_ops.proofs.Places.{each-drop_frame, index-map, written-gone}
 use Rattle.seg_ops.proofs.StillSteps.{memory_of, value-is}
 use Rattle.seg_ops.proofs.vm_world.FlatWhole.{some-inj}

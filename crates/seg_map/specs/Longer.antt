@@ -1,20 +1,20 @@
 -- A file that is made longer. Public clauses cite this.
-use Rattle.std.specs.Prelude.{◌≡◌, ◌≢◌, ◌⊎◌, ◌<◌, ◌%◌, ℕ, List, Some, None, Result, Ok, Err, IsTrue}
+use Rattle.std.specs.Prelude.{◌≡◌, ◌≢◌, ◌⊎◌, ℕ, List, Some, None, Result, Ok, Err, IsTrue}
 use Rattle.seg_ops.specs.page_hash.Names.{find}
 use Rattle.seg_ops.specs.page_hash.declared.PageName.{PageName}
 use Rattle.seg_ops.specs.page_store.Seen.{IsListedFrame, residence}
 use Rattle.seg_ops.specs.page_store.declared.residence.Residence.TheVariants.{Home}
 use Rattle.seg_ops.specs.vnode_files.declared.extent.Extent.{Extent}
-use Rattle.seg_ops.specs.vnode_files.Files.{FilesSeen, vnode_at, growth_of}
+use Rattle.seg_ops.specs.vnode_files.Files.{FilesSeen, growth_of}
 use Rattle.seg_ops.specs.flat_model.Flat.{File}
 use Rattle.seg_ops.specs.flat_model.Parts.{longer_file, with_extents_of}
-use Rattle.seg_ops.specs.flat_model.Words.{page, page_size, pages_in}
+use Rattle.seg_ops.specs.flat_model.Words.{page, pages_in}
 use Rattle.seg_ops.specs.vm_world.FileSteps.{ChangesFile}
 use Rattle.seg_ops.specs.vm_world.FlatMemory.{Memory}
 use Rattle.seg_ops.specs.vm_world.Segments.{Spaces}
 use Rattle.seg_ops.specs.vm_world.Wants.{GrowthWants, IsGapPage}
 use Rattle.seg_ops.specs.vm_world.Words.{memory, Fits}
-use Rattle.seg_ops.specs.vm_world.World.{World, world_seen, file_name, is_unpushed}
+use Rattle.seg_ops.specs.vm_world.World.{World, world_seen, is_unpushed}
 use Rattle.seg_ops.specs.vm_world.declared.wants.Wants.{Wants}
 use Rattle.seg_ops.specs.vm_world.declared.world.World as rust
 use Rattle.seg_ops.specs.Plans.{FetchesPage}

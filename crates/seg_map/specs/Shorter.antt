@@ -4,7 +4,6 @@ use Rattle.seg_ops.specs.page_hash.Names.{name_at}
 use Rattle.seg_ops.specs.page_hash.declared.PageName.{PageName}
 use Rattle.seg_ops.specs.page_store.Seen.{StoreSeen, residence}
 use Rattle.seg_ops.specs.page_store.declared.residence.Residence.TheVariants.{Moving}
-use Rattle.seg_ops.specs.vnode_files.Files.{vnode_at}
 use Rattle.seg_ops.specs.flat_model.Flat.{File}
 use Rattle.seg_ops.specs.flat_model.Words.{page, page_size, pages_in}
 use Rattle.seg_ops.specs.vm_world.FileSteps.{ChangesFile}

@@ -73,8 +73,8 @@ fn clean_home<D: Disk>(world: &mut World<D>, name: PageName, frame: u32) -> Opti
     Some(ask(world, Plan::Push(name)))
 }
 
-/// What must come first of pages of a file that a call wants clean, from one up to another: None where all are clean; else the
-/// first that isn't, and its push, or whom the call waits for: who moves the page, or has its disk. Each page is looked at once, up
+/// What must come first of pages of a file that a call wants clean, from one up to another: None where all are clean; else one
+/// that isn't, and its push, or whom the call waits for: who moves the page, or has its disk. Each page is looked at once, up
 /// to that one. Takes no memory and makes no disk call. Time: the pages, and their translations.
 pub fn clean_pages<D: Disk>(
     world: &mut World<D>,

@@ -61,8 +61,8 @@ use Rattle.seg_vn.proofs.FaultPlaces.{own-none, own-private, file-shown, zero-sh
 use Rattle.seg_vn.proofs.FaultSteps.{makes-copy, own-gets, own-shown, pends-then, shown-waits, shows-same, wanted-none}
 use Rattle.seg_vn.proofs.Faulted.{wanted-name, absent-home}
 use Rattle.seg_vn.proofs.SlotsDue.{due-own}
-use Rattle.seg_vn.proofs.Takes.{takes-none}
-use Rattle.seg_vn.proofs.Replacements.{none-replaced}
+use Rattle.home_pages.proofs.Takes.{takes-none}
+use Rattle.home_pages.proofs.Replacements.{none-replaced}
 
 -- bits that are gathered leave the lists and the names
 pub gathered-next : (s new : StoreSeen) (o : Option Dropped) → new ≡ with_dropped_gathered s o → next_frame new ≡ next_frame s

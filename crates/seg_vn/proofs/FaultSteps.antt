@@ -51,7 +51,7 @@ use Rattle.seg_ops.proofs.SlotOwners.{not-shown}
 use Rattle.seg_ops.proofs.SlotPlaces.{own-else, slot-here}
 use Rattle.seg_ops.proofs.StillSteps.{memory_of}
 use Rattle.seg_vn.specs.FaultPlaces.{PagePlace, ZerosShown}
-use Rattle.seg_vn.specs.Brings.{BringsPage}
+use Rattle.home_pages.specs.Brings.{BringsPage}
 use Rattle.seg_ops.specs.Faults.{Accesses, FaultMeans, ServesFault, WaitsFor, after_fault}
 use Rattle.seg_vn.specs.Shown.{ZerosPlace}
 use Rattle.seg_ops.specs.SlotsDue.{KeepsSlots}
@@ -61,8 +61,8 @@ use Rattle.seg_vn.proofs.Faulted.{access-wants, wanted-name}
 use Rattle.seg_vn.proofs.Modifying.{loaded-modifies}
 use Rattle.seg_vn.proofs.FilePlaces.{either-allowed}
 use Rattle.seg_vn.proofs.SlotsDue.{due-none, slots-kept}
-use Rattle.seg_vn.proofs.Takes.{or-false, takes-none, takes-then}
-use Rattle.seg_vn.proofs.Replacements.{none-replaced, replaced-beside, replaced-then}
+use Rattle.home_pages.proofs.Takes.{or-false, takes-none, takes-then}
+use Rattle.home_pages.proofs.Replacements.{none-replaced, replaced-beside, replaced-then}
 
 -- what a place shows, by the maps and the files alone
 has-same : (old new : World) (shown : Option ℕ) (i : ℕ) (o : Object) → new.maps ≡ old.maps → new.files ≡ old.files → object_has new shown i o ≡ object_has old shown i o

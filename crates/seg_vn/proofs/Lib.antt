@@ -7,9 +7,6 @@ pub mod SpacesFrom
 pub mod Writers
 pub mod LimitedSegments
 pub mod ClearedSpaces
-pub mod Takes
-pub mod Replacements
-pub mod Brings
 pub mod Modifying
 pub mod FilePlaces
 pub mod Faulted
@@ -31,4 +28,5 @@ pub use Rattle.seg_ops.proofs.addr_space as addr_space
 pub use Rattle.seg_ops.proofs.page_store as page_store
 pub use Rattle.seg_ops.proofs.vm_world as vm_world
 pub use Rattle.seg_ops.proofs as seg_ops
+pub use Rattle.home_pages.proofs as home_pages
 pub use Rattle.seg_ops.proofs.hat_layer as hat_layer

@@ -1,33 +1,16 @@
 -- Which pages faults make modified: the one that is loaded, where it is that of a slot which was never pushed.
 use Rattle.seg_ops.proofs.Pushed.{cleared as fresh}
-use Rattle.std.proofs.Common.{◌≡◌, ℕ, zero, suc, ◌==◌, Bool, true, false, cond, List, [], ◌∷◌, Option, Some, refl, sym, ap, ◌∙◌, inl, inr, Ok, not, slice_index_or, slice_set}
-use Rattle.std.proofs.lemmas.Bool.{eqb-true}
+use Rattle.std.proofs.Common.{◌≡◌, ℕ, false, List, Option, Some, sym, ap, ◌∙◌, inl, inr, Ok, slice_index_or}
 use Rattle.seg_ops.specs.anon_map.Maps.{Map}
 use Rattle.seg_ops.specs.anon_slots.Slots.{AnonSlotsSeen}
 use Rattle.seg_ops.specs.page_hash.declared.PageName.{PageName}
-use Rattle.seg_ops.specs.vnode_files.Files.{FilesSeen, vnode_at}
-use Rattle.seg_ops.specs.vnode_files.Vnode.{is_blank}
 use Rattle.seg_ops.specs.vm_world.Segments.{Spot, shown_name}
-use Rattle.seg_ops.specs.vm_world.Serving.{IsUnpushedSlot, ModifiesNone, ModifiesOnly}
-use Rattle.seg_ops.specs.vm_world.World.{World, is_unpushed, slot_name}
+use Rattle.seg_ops.specs.vm_world.Serving.{ModifiesNone, ModifiesOnly}
+use Rattle.seg_ops.specs.vm_world.World.{World, slot_name}
 use Rattle.seg_ops.specs.Faults.{FaultModifies}
-use Rattle.seg_ops.specs.Slots.{GivesSlot, anon_left}
+use Rattle.seg_ops.specs.Slots.{GivesSlot}
 use Rattle.seg_ops.specs.declared.plans.Fault.TheVariants as fault
-use Rattle.seg_vn.specs.Brings.{BringModifies}
-
-not-true : (b : Bool) → not b ≡ true → b ≡ false
-not-true false e = refl
-not-true true e = absurd (let z : false ≡ true = e in cc)
-
--- a page that was never pushed, and isn't a file's
-pub unpushed-slot : (files : FilesSeen) (anon : AnonSlotsSeen) (name : PageName) → (name.object == 64) ≡ true → is_unpushed files anon name ≡ true → IsUnpushedSlot anon name
-unpushed-slot files anon name is blank =
-    let object = eqb-true name.object 64 is in
-    let pushed : Bool = slice_index_or anon.swapped name.page false in (
-      name.page,
-      (λ i. record { object = object i; page = name.page }),
-      not-true pushed (sym (ap (λ (b : Bool). cond b (not pushed) (is_blank (vnode_at files name.object) name.page)) is) ∙ blank),
-    )
+use Rattle.home_pages.specs.Brings.{BringModifies}
 
 pub given-fresh : (old new : AnonSlotsSeen) (maps put : List (Option Map)) (m i s : ℕ) → GivesSlot old new maps put m i s → slice_index_or new.swapped s false ≡ false
 given-fresh old new maps put m i s g = ap (λ (a : AnonSlotsSeen). slice_index_or a.swapped s false) g.counts ∙ fresh _ s

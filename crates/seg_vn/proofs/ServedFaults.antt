@@ -36,7 +36,7 @@ use Rattle.seg_ops.proofs.OwnShown.{own_shown_law}
 use Rattle.seg_ops.proofs.StillSteps.{memory_of}
 use Rattle.seg_ops.specs.Faults.{Accesses, FaultMeans, FaultModifies, EndsThere, ServesFault, after_fault, is_past}
 use Rattle.seg_ops.specs.SlotsDue.{SlotsAfter}
-use Rattle.seg_vn.proofs.Takes.{takes-later, takes-next}
+use Rattle.home_pages.proofs.Takes.{takes-later, takes-next}
 
 -- an access of a page accesses it
 pub accessed : (write : Bool) (q : ℕ) (call : Call) → Accesses write q call → accessed_page call ≡ Some q

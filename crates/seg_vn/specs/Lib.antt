@@ -5,7 +5,6 @@ pub mod Lends
 pub mod Clears
 pub mod Leaves
 pub mod Serves
-pub mod Brings
 pub mod Shown
 pub mod FaultPlaces
 pub mod Cuts

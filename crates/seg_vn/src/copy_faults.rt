@@ -14,8 +14,8 @@ ghost use Rattle.seg_vn.specs.FaultPlaces.{IsOwnPlace, ShowsZeros, TakesNext, Is
 ghost use Rattle.seg_ops.specs.Owners.{IsOwned};
 ghost use Rattle.seg_ops.specs.Rooms.{KeepsUnlisted, KeepsAbsent, ListsNoMore};
 
-use crate::brought::is_unpushed;
 use crate::segment::load_page;
+use home_pages::is_unpushed;
 use seg_ops::{
     Disk, Fault, Hold, PageName, Plan, Residence, SWAP_OBJECT, Wants, World, ask, copy_slot,
     drop_translation, fetch, free_next, make_copy, make_room, make_room_beside, make_zero,

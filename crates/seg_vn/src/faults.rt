@@ -8,8 +8,8 @@ ghost use Rattle.seg_ops.specs.Slots.{IsNewZero};
 ghost use Rattle.seg_vn.specs.FaultPlaces.{PagePlace, ZerosShown};
 ghost use Rattle.seg_ops.specs.Faults.{FaultServed};
 
-use crate::brought::bring_page;
 use crate::segment::load_page;
+use home_pages::bring_page;
 use seg_ops::{
     Disk, Fault, PageName, Plan, SWAP_OBJECT, Wants, World, ask, free_next, make_room, make_zero,
 };

@@ -2,7 +2,6 @@
 #![tactic(auto)]
 
 mod attempt;
-mod brought;
 mod cleans;
 mod clears;
 mod copy_faults;

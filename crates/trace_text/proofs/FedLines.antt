@@ -1,6 +1,6 @@
 -- The text of a trace is the text of its lines, and these are the text's lines.
+use Rattle.vm_report.proofs.vm_script.Placed.{and_right}
 use Rattle.std.proofs.lemmas.Bool.{and_from as both}
-use Rattle.vm_report.proofs.vm_script.SetupLines.{and_right}
 use Rattle.vm_report.proofs.flat_model.Histories.{io_aside as and_left}
 use Rattle.std.proofs.Common.{◌≡◌, ℕ, zero, suc, ◌+◌, ◌/◌, ◌==◌, Bool, true, false, List, [], ◌∷◌, ◌++◌, length, map, take, drop, refl, sym, ap, ap₂, ◌∙◌, append_assoc, append-nil, arith, rules, tests, cond}
 use Rattle.std.specs.Prelude.{All, codes, decimal, if◌then◌else◌}

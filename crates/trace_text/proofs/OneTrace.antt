@@ -1,5 +1,5 @@
 -- A text is that of one trace alone.
-use Rattle.vm_report.proofs.vm_script.SetupLines.{and_right}
+use Rattle.vm_report.proofs.vm_script.Placed.{and_right}
 use Rattle.vm_report.proofs.flat_model.Histories.{io_aside as and_left}
 use Rattle.std.proofs.Common.{◌≡◌, ℕ, zero, suc, ◌≤◌, ◌+◌, ◌*◌, ◌/◌, ◌==◌, min, Bool, true, false, List, [], ◌∷◌, ◌++◌, length, map, take, drop, refl, sym, subst, ap, ap₂, ◌∙◌, append_assoc, arith, rules, tests}
 use Rattle.std.specs.Prelude.{if◌then◌else◌}

@@ -1,6 +1,6 @@
 -- Lines of the opening part that were printed are read again.
+use Rattle.vm_report.proofs.vm_script.Placed.{and_right}
 use Rattle.std.proofs.lemmas.Bool.{and_from as both}
-use Rattle.vm_report.proofs.vm_script.SetupLines.{and_right}
 use Rattle.vm_report.proofs.flat_model.Histories.{io_aside as and_left}
 use Rattle.std.proofs.Common.{◌≡◌, ℕ, ◌≤◌, ◌==◌, Bool, true, false, ◌||◌, List, [], ◌∷◌, ◌++◌, length, map, Some, refl, sym, ap, ◌∙◌, append_assoc, append-nil, arith, rules, tests, cond, length-append}
 use Rattle.std.specs.Prelude.{All, IsTrue, codes, decimal}

@@ -1,6 +1,6 @@
 -- Bytes that are put one by one over zeros, by pairs of digits.
+use Rattle.vm_report.proofs.vm_script.Placed.{and_right}
 use Rattle.std.proofs.lemmas.Bool.{and_from as both}
-use Rattle.vm_report.proofs.vm_script.SetupLines.{and_right}
 use Rattle.vm_report.proofs.flat_model.Histories.{io_aside as and_left}
 use Rattle.std.proofs.Common.{◌≡◌, ℕ, zero, suc, ◌≤◌, ◌<◌, ◌+◌, ◌-◌, ◌*◌, true, List, [], ◌∷◌, ◌++◌, length, take, drop, set, get_or, refl, ap, ap₂, ◌∙◌, append_assoc, arith, IsTrue}
 use Rattle.std.specs.List.{list_all}

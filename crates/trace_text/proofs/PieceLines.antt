@@ -1,5 +1,5 @@
 -- The lines of a file's bytes with a piece more.
-use Rattle.vm_report.proofs.vm_script.SetupLines.{and_right}
+use Rattle.vm_report.proofs.vm_script.Placed.{and_right}
 use Rattle.vm_report.proofs.flat_model.Histories.{io_aside as and_left}
 use Rattle.std.proofs.Common.{◌≡◌, ℕ, zero, suc, ◌≤◌, ◌<◌, ◌+◌, ◌-◌, ◌*◌, ◌/◌, ◌%◌, ◌==◌, min, Bool, true, false, List, [], ◌∷◌, ◌++◌, length, take, drop, replicate, inl, inr, refl, sym, subst, ap, ap₂, ◌∙◌, append_assoc, append-nil, length-append, arith}
 use Rattle.std.specs.Prelude.{if◌then◌else◌}

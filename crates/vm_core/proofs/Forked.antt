@@ -40,8 +40,8 @@ use Rattle.fault_entry.proofs.seg_ops.Composed.{keeps-same}
 use Rattle.fault_entry.specs.seg_vn.Serves.{IsPlainReply}
 use Rattle.fault_entry.specs.seg_vn.declared.attempt.Attempt.{Attempt}
 use Rattle.fault_entry.specs.seg_vn.declared.attempt.Attempt.TheVariants.{Done}
-use Rattle.fault_entry.proofs.seg_vn.Replacements.{none-replaced}
-use Rattle.fault_entry.proofs.seg_vn.Takes.{takes-none}
+use Rattle.fault_entry.proofs.home_pages.Replacements.{none-replaced}
+use Rattle.fault_entry.proofs.home_pages.Takes.{takes-none}
 use Rattle.proc_calls.specs.Forks.{DoesFork, IsCountedFork, IsForked, RefusesFork, fork_entry}
 use Rattle.vm_core.specs.Calls.{AnswersCall, IsDone, SlotsAfterCall, after_answer}
 use Rattle.vm_core.specs.Fits.{FitsAt}

@@ -14,7 +14,7 @@ use Rattle.vm_script.specs.Lines.{is_plain, fields, lines}
 use Rattle.vm_script.specs.Cursor.{first_line, after_line}
 use Rattle.vm_script.specs.Statements.{statement, word_statement, mapping_statement, file_statement, block_statement, setup_statement, disk_statement}
 use Rattle.vm_script.specs.Statements.{load_line}
-use Rattle.vm_script.specs.Statements.{store_line, map_line, unmap_line, protect_line, sync_line, read_call_line, write_line, truncate_line, disk}
+use Rattle.vm_script.specs.Statements.{store_line, map_line, unmap_line, protect_line, sync_line, read_call_line, write_line, truncate_line, disk, join}
 use Rattle.vm_script.specs.Statements.{file}
 use Rattle.vm_script.specs.Plans.{OpenPlan, with_statement, spot_of, plan_from}
 use Rattle.vm_script.specs.ReadLines.{ReadsLine, FailsLine}
@@ -35,7 +35,7 @@ line_shorter (b ∷ xs) some = let le = line_le xs in grind (rules, tests, arith
 -- no line of the grammar has more than seven fields
 pub statement_eight : (spot : LineSpot) (plain : Bool) (fs : List (List ℕ)) → statement spot plain (take 8 fs) ≡ statement spot plain fs
 unfolding statement word_statement mapping_statement file_statement block_statement setup_statement disk_statement load_line store_line map_line unmap_line
-    protect_line sync_line read_call_line write_line truncate_line disk file
+    protect_line sync_line read_call_line write_line truncate_line disk file join
 statement_eight spot plain [] = refl
 statement_eight spot plain (a ∷ []) = refl
 statement_eight spot plain (a ∷ b ∷ []) = refl

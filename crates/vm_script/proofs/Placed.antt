@@ -1,5 +1,4 @@
 -- A line that is read says what a line may say, and stands where it may.
-use Rattle.vm_script.proofs.Printing.{and_right}
 use Rattle.flat_model.proofs.Histories.{io_aside as and_left}
 use Rattle.std.proofs.Common.{◌≡◌, ℕ, ◌≤◌, ◌<◌, ◌^◌, ◌+◌, ◌*◌, ◌%◌, ◌==◌, Bool, true, false, not, ◌&&◌, ◌||◌, List, [], ◌∷◌, length, Option, Some}
 use Rattle.std.proofs.Common.{None, Result, Ok, Err, refl, sym, ap, ◌∙◌, subst, arith, rules, tests, cond, ⊎_elim, inl, inr, lit<}
@@ -106,6 +105,10 @@ name_is field t is = from (is_file_name field) refl is
 
 digit_small : (b : ℕ) → is_hex_digit b ≡ true → digit_value b < 16
 digit_small b is = grind (rules, tests, arith, nat_tests, is)
+
+pub and_right : (a b : Bool) → (a && b) ≡ true → b ≡ true
+and_right true b e = e
+and_right false b e = absurd (false≢true e)
 
 hex_small : (digits : List ℕ) → list_all is_hex_digit digits ≡ true → AreBytes (hex_bytes digits)
 hex_small [] all = All-nil IsByte

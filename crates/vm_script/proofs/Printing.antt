@@ -1,5 +1,5 @@
 -- A script that is printed plainly is read as what was printed.
-use Rattle.vm_script.proofs.SetupLines.{and_right}
+use Rattle.vm_script.proofs.Placed.{and_right}
 use Rattle.flat_model.proofs.Histories.{io_aside as and_left}
 use Rattle.std.proofs.Common.{◌≡◌, ℕ, ◌≤◌, ◌<◌, ◌^◌, ◌+◌, ◌*◌, ◌/◌, ◌%◌, ◌==◌, Bool, true, false, not, ◌&&◌, List, [], ◌∷◌, ◌++◌, length, fold, Some}
 use Rattle.std.proofs.Common.{None, refl, ap, ap₂, ◌∙◌, arith, rules, tests, cond, length-append, lit<}

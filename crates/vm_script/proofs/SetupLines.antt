@@ -30,15 +30,11 @@ use Rattle.vm_script.specs.Statements.{number, name, bytes, amount, path, disk_s
 use Rattle.vm_script.specs.Statements.{load_line, store_line, map_line, unmap_line, protect_line, sync_line, read_call_line, write_line}
 use Rattle.vm_script.specs.Statements.{truncate_line, disk_statement, setup_statement, block_statement, file_statement, mapping_statement, word_statement, statement}
 use Rattle.vm_script.specs.Statements.{is_comment}
-use Rattle.vm_script.proofs.Placed.{bind, choice, needed, number_is, name_is, bytes_is, if_ok, alone_is}
+use Rattle.vm_script.proofs.Placed.{and_right, bind, choice, needed, number_is, name_is, bytes_is, if_ok, alone_is}
 
 -- A plain line's fields are words.
 abbrev are_graphic : List (List ℕ) → Bool
 are_graphic parts = list_all (list_all is_graphic) parts
-
-pub and_right : (a b : Bool) → (a && b) ≡ true → b ≡ true
-and_right true b e = e
-and_right false b e = absurd (false≢true e)
 
 graphic : (b : ℕ) → is_plain b ≡ true → is_space b ≡ false → is_graphic b ≡ true
 graphic b plain space = grind (rules, tests, arith, nat_tests, plain, space)

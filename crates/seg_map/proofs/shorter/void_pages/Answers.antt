@@ -4,7 +4,6 @@ use Rattle.seg_ops.specs.vnode_files.declared.vnode.FileInfo.{FileInfo}
 use Rattle.seg_ops.specs.vm_world.World.{world_seen}
 use Rattle.seg_ops.proofs.StillSteps.{memory_of}
 use Rattle.seg_map.proofs.Shortens.{void-first, void-next, void-exists, infos-count, rest-then}
-use Rattle.seg_map.proofs.shorter.void_pages.Goals.{After-void_page}
 use Rattle.seg_map.proofs.shorter.void_pages.Goals as goal
 
 pub loop-page-init : goal.loop-page-init

@@ -7,9 +7,9 @@ use Rattle.seg_ops.specs.vm_world.StateSteps.{PendsTails}
 use Rattle.seg_ops.specs.vm_world.World.{world_seen}
 use Rattle.seg_ops.proofs.Modified.{modifies-then}
 use Rattle.seg_vn.proofs.CopySteps.{gathered-next, gathered-listed, gathered-same}
-use Rattle.seg_vn.proofs.Takes.{takes-later, takes-next}
+use Rattle.home_pages.proofs.Takes.{takes-later, takes-next}
 use Rattle.seg_vn.proofs.copy_faults.clear_way.Goals as goal
-use Rattle.seg_vn.proofs.Replacements.{cut-frame}
+use Rattle.home_pages.proofs.Replacements.{cut-frame}
 use Rattle.seg_ops.specs.page_hash.declared.PageName.{PageName}
 
 pub free_next-requires : goal.free_next-requires

@@ -4,15 +4,15 @@ ghost use Rattle.seg_ops.specs.page_store.Seen.{residence};
 ghost use Rattle.seg_ops.specs.page_store.declared.residence.Residence.TheVariants.{Absent};
 ghost use Rattle.seg_ops.specs.vm_world.Words.{IsFit, IsKnown, OneIsHome, OnlyFrames};
 ghost use Rattle.seg_ops.specs.vm_world.World.{is_unpushed, page_exists};
-ghost use Rattle.seg_vn.specs.Brings.{IsPageBrought};
+ghost use Rattle.home_pages.specs.Brings.{IsPageBrought};
 
 use seg_ops::{
     Disk, Hold, PageName, Plan, Residence, SWAP_OBJECT, Wants, World, ask, fetch, fill_page,
     make_room,
 };
 
-/// Whether a page was never pushed.
-pub(crate) fn is_unpushed<D: Disk>(world: &World<D>, name: PageName) -> bool
+/// Whether a page was never pushed: a blank page of a file, or that of a slot which was never on swap. Constant time.
+pub fn is_unpushed<D: Disk>(world: &World<D>, name: PageName) -> bool
     requires exists { IsTrue (page_exists world.now.files world.now.anon name) }
     requires fits { IsFit world.now }
     ensures { result ≡ is_unpushed world.now.files world.now.anon name }
@@ -42,9 +42,10 @@ fn bring_zeros<D: Disk>(world: &mut World<D>, name: PageName) -> Result<(), Want
     Ok(())
 }
 
-/// A page that exists comes home, where nothing has to be waited for or read in.
+/// A page that exists comes home, where nothing has to be waited for or read in; else it says what must come first. Time: one look where
+/// it is home; else what `make_room` takes, and one page where it is one of zeros.
 #[inline(always)]
-pub(crate) fn bring_page<D: Disk>(world: &mut World<D>, name: PageName) -> Result<(), Wants>
+pub fn bring_page<D: Disk>(world: &mut World<D>, name: PageName) -> Result<(), Wants>
     requires exists { IsTrue (page_exists world.old.files world.old.anon name) }
     requires home { OneIsHome world.old.store }
     requires fits { IsFit world.old }

@@ -1,9 +1,9 @@
 use Rattle.std.proofs.Common.{ℕ, Err, sym, ap, ◌∙◌, subst}
 use Rattle.seg_ops.specs.vm_world.World.{world_seen}
 use Rattle.seg_ops.proofs.StillSteps.{memory_of}
-use Rattle.seg_vn.specs.Brings.{BringsPage}
-use Rattle.seg_vn.proofs.Brings.{fetch-brings, home-brings, moving-brings}
-use Rattle.seg_vn.proofs.brought.bring_page.Goals as goal
+use Rattle.home_pages.specs.Brings.{BringsPage}
+use Rattle.home_pages.proofs.Brings.{fetch-brings, home-brings, moving-brings}
+use Rattle.home_pages.proofs.brought.bring_page.Goals as goal
 
 pub returns-in-Home-clause-brings : goal.returns-in-Home-clause-brings
 returns-in-Home-clause-brings g c = λ spaces fits.

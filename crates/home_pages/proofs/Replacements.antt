@@ -15,7 +15,7 @@ use Rattle.seg_ops.specs.vm_world.Serving.{AreReplaced}
 use Rattle.seg_ops.specs.vm_world.World.{World, page_exists, slot_name}
 use Rattle.seg_ops.proofs.Fills.{held-by}
 use Rattle.seg_ops.proofs.StillSteps.{memory_of}
-use Rattle.seg_vn.proofs.Takes.{or-false}
+use Rattle.home_pages.proofs.Takes.{or-false}
 
 -- no page was cut
 pub none-replaced : (old new : World) → AreReplaced old new (λ name. false)

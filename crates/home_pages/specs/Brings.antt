@@ -1,4 +1,4 @@
--- How a page comes home. Inside: no public clause cites this.
+-- How a page comes home. Public clauses cite this.
 use Rattle.std.specs.Prelude.{◌≡◌, ◌≢◌, ℕ, Result, Ok, Err}
 use Rattle.seg_ops.specs.page_hash.declared.PageName.{PageName}
 use Rattle.seg_ops.specs.page_store.Seen.{residence}

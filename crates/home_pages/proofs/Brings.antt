@@ -15,9 +15,9 @@ use Rattle.seg_ops.specs.Plans.{FetchesPage}
 use Rattle.seg_ops.specs.vm_world.Words.{KeepsPages}
 use Rattle.seg_ops.proofs.Composed.{keeps-same}
 use Rattle.seg_ops.proofs.StillSteps.{memory_of}
-use Rattle.seg_vn.specs.Brings.{BringsPage, BringModifies}
-use Rattle.seg_vn.proofs.Takes.{takes-none}
-use Rattle.seg_vn.proofs.Replacements.{none-replaced}
+use Rattle.home_pages.specs.Brings.{BringsPage, BringModifies}
+use Rattle.home_pages.proofs.Takes.{takes-none}
+use Rattle.home_pages.proofs.Replacements.{none-replaced}
 
 -- THE ANSWERS: it is home, or moving; it is fetched; and a frame was taken for it.
 pub home-brings : (w : World) (spaces : Spaces) (pending : ℕ) (name : PageName) (frame : ℕ) → MemoryFits (memory_of w spaces) → residence w.store name ≡ Home frame

@@ -1,0 +1,4 @@
+pub mod Takes
+pub mod Replacements
+pub mod Unpushed
+pub mod Brings
