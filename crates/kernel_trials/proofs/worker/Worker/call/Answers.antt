@@ -1,0 +1,13 @@
+use Rattle.kernel_trials.proofs.Working.{works-done}
+use Rattle.kernel_trials.proofs.worker.Worker.call.Goals as goal
+
+pub returns : goal.returns
+returns g c =
+    let w = c.args.self.now in
+    let may = c.in-Some.ensures in
+    record {
+      works = (
+        (c.call.ensures.caller, works-done c.args.kernel.now w.caller c.call.new.caller w.process w.parent w.left w.is_alive w.has_forked w.last c.requires.works.1 c.call.ensures.goes c.saturating_sub-self.result c.in-Some.next c.in-Ok.reply c.saturating_sub-self.ensures may.1 may.0 c.in-Ok.ensures.done),
+        c.call.ensures.goes.number,
+      );
+    }
