@@ -56,8 +56,22 @@ const SECOND_FAILS: Early = Early {
     but: &[0, 1],
 };
 
+// The pages of both files are modified, and go out in the order of the files: that of a to block 1, and that of b to block 3.
+const PAGES: &[u8] =
+    b"disk 0 path v\nfile b rw 0 1 62\nprocess\nmap 0x2000 4096 rw shared a 0\nmap 0x4000 4096 rw shared b 0\nstore 0x2000 1 0x4b\nstore 0x4000 1 0x63\nend\n";
+
+const PAGE_FAILS: Early = Early {
+    name: "the second page isn't pushed as the files are closed",
+    words: NO_WORDS,
+    script: PAGES,
+    fails: Fails { disk_0: 6, ..NEVER },
+    status: 7,
+    fault: "closing",
+    but: &[1, 3],
+};
+
 // The file of the script's line gets block 3.
-const EARLY: [Early; 6] = [
+const EARLY: [Early; 7] = [
     Early {
         name: "the trace isn't taken",
         words: "--trace",
@@ -103,6 +117,7 @@ const EARLY: [Early; 6] = [
         fault: "none",
         but: &[],
     },
+    PAGE_FAILS,
     SECOND_FAILS,
 ];
 
@@ -130,6 +145,19 @@ fn end_each(rt: &impl Wait, alloc: Global, cases: &[Early]) -> Result<(), Fail> 
 #[test]
 fn a_run_that_ends_early_leaves_the_other_blocks(rt: HostRuntime) -> Result<(), Fail> {
     end_each(&rt, rt.alloc(), &EARLY)
+}
+
+// The first page was stored before the second one failed; the table of before is still there.
+#[test]
+fn a_page_is_stored_before_the_next_one_fails(rt: HostRuntime) -> Result<(), Fail> {
+    let left = end_early(&rt, rt.alloc(), &PAGE_FAILS)?;
+    match left.disks.first() {
+        Some(blocks) if blocks.len() == 8 => {
+            assert_eq!(rt; &blocks[1].bytes[..5], b"Kell\x06".as_slice());
+            Ok(())
+        }
+        _ => Err(Fail::new("the disk came back")),
+    }
 }
 
 // The first disk was closed before the second one failed: it has its page and its table.
