@@ -1,8 +1,8 @@
--- ACTS OF TWO SEATS leave a state that fits with what the seats have outside.
+-- ACTS OF SEATS leave a state that fits with what the seats have outside.
 use Rattle.std.proofs.Common.{◌≡◌, ◌≢◌, ℕ, ◌<◌, ◌==◌, Bool, true, false, List, [], ◌∷◌, ◌++◌, length, map, zero, suc, Option, Some, None, refl, sym, ap, ◌∙◌, inl, inr, subst, arith}
-use Rattle.std.specs.Prelude.{IsTrue, IfSome, MatchOption, if◌then◌else◌, option_map, slice_index_or, slice_set}
+use Rattle.std.specs.Prelude.{IsTrue, IfSome, MatchOption, if◌then◌else◌, option_map, replicate, slice_index_or, slice_set}
 use Rattle.std.proofs.lemmas.Bool.{cases_eq}
-use Rattle.std.proofs.lemmas.List.{length-map, map-set, length-set, get_or-set_same, get_or-set_other}
+use Rattle.std.proofs.lemmas.List.{length-map, map-set, length-set, length-replicate, get_or-set_same, get_or-set_other}
 use Rattle.std.proofs.Math.ListN.{get_or-map}
 use Rattle.vm_types.specs.Parts.{next_part, ends_call}
 use Rattle.vm_types.specs.declared.call.Call.{Call}
@@ -89,7 +89,6 @@ trial-event s t trips seat trial idle event follows = record {
   opening = trial.opening;
   fits = subst (λ (x : Seats). StateFits trial.opening t x) (same-seats (seats_with trips) seat None (seat-with trips seat None idle)) (event.fits trial.opening (seats_with trips) (seat-with trips seat None idle) trial.fits);
   follows = follows;
-  seats = trial.seats;
   seated = ap (λ (x : Fixed). x.seats) event.fixed ∙ trial.seated;
   each = trial.each;
 }
@@ -102,16 +101,14 @@ pub trial-same : (s t : KernelState) (trips : List (Option TripSeen)) (seat : �
 trial-same s t trips seat trial idle event same = trial-event s t trips seat trial idle event (subst AnyFollows (sym same) trial.follows)
 
 -- A TRANSFER goes out and comes back
-pub trial-sent : (s u : KernelState) (trips : List (Option TripSeen)) (seat : ℕ) (kept : KeptPlan) (f : FlightSeen) → IsTrialState s trips → seat < 3 → slice_index_or trips seat None ≡ None → IsEvent seat s None u (Some (sent_with kept f))
+pub trial-sent : (s u : KernelState) (trips : List (Option TripSeen)) (seat : ℕ) (kept : KeptPlan) (f : FlightSeen) → IsTrialState s trips → seat < length trips → slice_index_or trips seat None ≡ None → IsEvent seat s None u (Some (sent_with kept f))
     → u.history ≡ s.history → f.outcome ≡ fresh → IsOfServed kept.of → IsTrialState u (slice_set trips seat (Some (f, kept.of)))
-trial-sent s u trips seat kept f trial lt idle event same new served =
-    let within : seat < length trips = omega (arith, lt, trial.seats) in
+trial-sent s u trips seat kept f trial within idle event same new served =
     record {
       opening = trial.opening;
       fits = subst (λ (x : Seats). StateFits trial.opening u x) (seats-set trips seat (Some (f, kept.of)) within) (event.fits trial.opening (seats_with trips) (seat-with trips seat None idle) trial.fits);
       follows = subst AnyFollows (sym same) trial.follows;
-      seats = length-set trips seat _ ∙ trial.seats;
-      seated = ap (λ (x : Fixed). x.seats) event.fixed ∙ trial.seated;
+      seated = ap (λ (x : Fixed). x.seats) event.fixed ∙ trial.seated ∙ sym (length-set trips seat _);
       each = each-set trips seat (Some (f, kept.of)) within trial.each (λ t is. subst (λ (o : Option TripSeen). IfSome o IsTrip) is (record { fresh = new; served = served }));
     }
 
@@ -120,51 +117,37 @@ pub trial-back : (s : KernelState) (trips : List (Option TripSeen)) (seat : ℕ)
 trial-back s trips seat f g of trial is performed =
     (trip_sent (f, of), (trial.opening, seats_with trips, trial.fits, seat-with trips seat _ is), record { performed = performed; same = refl })
 
-pub trial-landed : (s t : KernelState) (trips : List (Option TripSeen)) (seat : ℕ) (f : FlightSeen) (of : Option Caller) (answer : Option Reply) → IsTrialState s trips → seat < 3 → slice_index_or trips seat None ≡ Some (f, of)
+pub trial-landed : (s t : KernelState) (trips : List (Option TripSeen)) (seat : ℕ) (f : FlightSeen) (of : Option Caller) (answer : Option Reply) → IsTrialState s trips → seat < length trips → slice_index_or trips seat None ≡ Some (f, of)
     → IsEvent seat s (Some (trip_sent (f, of))) t None → EndsWith s t of answer → IsTrialState t (slice_set trips seat None)
-trial-landed s t trips seat f of answer trial lt is event ends =
-    let within : seat < length trips = omega (arith, lt, trial.seats) in
+trial-landed s t trips seat f of answer trial within is event ends =
     record {
       opening = trial.opening;
       fits = subst (λ (x : Seats). StateFits trial.opening t x) (seats-set trips seat None within) (event.fits trial.opening (seats_with trips) (seat-with trips seat _ is) trial.fits);
       follows = ended-follows s t of answer trial.follows (trial.each seat _ is).served ends;
-      seats = length-set trips seat None ∙ trial.seats;
-      seated = ap (λ (x : Fixed). x.seats) event.fixed ∙ trial.seated;
+      seated = ap (λ (x : Fixed). x.seats) event.fixed ∙ trial.seated ∙ sym (length-set trips seat None);
       each = each-set trips seat None within trial.each (λ t no. absurd (cc));
     }
 
 -- THE START AND THE END
-idle : (k : ℕ) → slice_index_or {A = Option TripSeen} (None ∷ None ∷ None ∷ []) k None ≡ None
-idle zero = refl
-idle (suc zero) = refl
-idle (suc (suc zero)) = refl
-idle (suc (suc (suc k))) = refl
+pub idle : (n k : ℕ) → slice_index_or {A = Option TripSeen} (replicate n None) k None ≡ None
+idle zero k = refl
+idle (suc n) zero = refl
+idle (suc n) (suc k) = idle n k
 
-nothing : (k : ℕ) → None ≡ seats_with (None ∷ None ∷ None ∷ []) k
-nothing zero = refl
-nothing (suc zero) = refl
-nothing (suc (suc zero)) = refl
-nothing (suc (suc (suc k))) = refl
+-- every seat has nothing where those of the list have
+pub none-out : (trips : List (Option TripSeen)) → ((k : ℕ) → k < length trips → slice_index_or trips k None ≡ None) → (seat : ℕ) → slice_index_or trips seat None ≡ None
+none-out [] each seat = refl
+none-out (t ∷ trips) each zero = each zero (omega arith)
+none-out (t ∷ trips) each (suc seat) = none-out trips (λ k lt. each (suc k) (omega (arith, lt))) seat
 
-each-idle : (trips : List (Option TripSeen)) (k : ℕ) → length trips ≡ 3 → slice_index_or trips 0 None ≡ None → slice_index_or trips 1 None ≡ None → slice_index_or trips 2 None ≡ None → slice_index_or trips k None ≡ None
-each-idle (a ∷ b ∷ c ∷ []) zero three first second third = first
-each-idle (a ∷ b ∷ c ∷ []) (suc zero) three first second third = second
-each-idle (a ∷ b ∷ c ∷ []) (suc (suc zero)) three first second third = third
-each-idle (a ∷ b ∷ c ∷ []) (suc (suc (suc k))) three first second third = refl
-each-idle [] k three first second third = refl
-each-idle (a ∷ []) k three first second third = absurd (omega (arith, three))
-each-idle (a ∷ b ∷ []) k three first second third = absurd (omega (arith, three))
-each-idle (a ∷ b ∷ c ∷ d ∷ l) k three first second third = absurd (omega (arith, three))
-
-pub trial-starts : (s : KernelState) (opening : _) → StateFits opening s no_seats → s.history ≡ [] → length s.syncs ≡ 3 → IsTrialState s (None ∷ None ∷ None ∷ [])
-trial-starts s opening fits none seated = record {
+pub trial-starts : (s : KernelState) (opening : _) (n : ℕ) → StateFits opening s no_seats → s.history ≡ [] → length s.syncs ≡ n → IsTrialState s (replicate n None)
+trial-starts s opening n fits none seated = record {
   opening = opening;
-  fits = subst (λ (x : Seats). StateFits opening s x) (λ i k. nothing k i) fits;
+  fits = subst (λ (x : Seats). StateFits opening s x) (λ i k. sym (seat-with (replicate n None) k None (idle n k)) i) fits;
   follows = λ e. subst (λ (H : List Entry). MayFollow H e) (sym none) tt;
-  seats = refl;
-  seated = seated;
-  each = λ k t is. absurd (let e = sym (idle k) ∙ is in cc);
+  seated = seated ∙ sym (length-replicate n None);
+  each = λ k t is. absurd (let e = sym (idle n k) ∙ is in cc);
 }
 
-pub trial-still : (s : KernelState) (trips : List (Option TripSeen)) → IsTrialState s trips → slice_index_or trips 0 None ≡ None → slice_index_or trips 1 None ≡ None → slice_index_or trips 2 None ≡ None → FitsStill s
-trial-still s trips trial first second third = (trial.opening, seats_with trips, trial.fits, λ seat. seat-with trips seat None (each-idle trips seat trial.seats first second third))
+pub trial-still : (s : KernelState) (trips : List (Option TripSeen)) → IsTrialState s trips → ((seat : ℕ) → slice_index_or trips seat None ≡ None) → FitsStill s
+trial-still s trips trial none = (trial.opening, seats_with trips, trial.fits, λ seat. seat-with trips seat None (none seat))

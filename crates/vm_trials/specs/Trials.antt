@@ -1,13 +1,18 @@
--- A state that is tried out, with what two seats have outside it; and the files of the trials. Inside: no public clause cites this.
-use Rattle.std.specs.Prelude.{◌≡◌, ℕ, Bool, List, [], ◌∷◌, Option, None, Some, IfSome, map, option_map, slice_index_or, length}
+-- A state that is tried out, with what its seats have outside it; and the files of the trials. Inside: no public clause cites this.
+use Rattle.std.specs.Prelude.{◌≡◌, ◌<◌, ◌+◌, ◌^◌, ℕ, Bool, List, [], ◌∷◌, Option, None, Some, IfSome, IsSome, map, option_map, slice_index_or, length}
+use Rattle.std.specs.FinMap as finite
 use Rattle.seg_ops.specs.page_store.Flight.{FlightSeen, note_of, fresh}
+use Rattle.vm_types.specs.WellFormed.{IsWellFormed}
+use Rattle.vm_types.specs.declared.call.Call.{Call}
 use Rattle.vm_types.specs.declared.call.Entry.{Entry}
 use Rattle.vnode_files.specs.declared.vnode.FileInfo.{FileInfo}
 use Rattle.vnode_files.specs.Files.{FilesSeen, no_files, with_disk, with_next_file}
 use Rattle.vnode_files.specs.Vnode.{fresh_vnode}
 use Rattle.flat_model.specs.Flat.{Flat}
 use Rattle.flat_model.specs.OpenLaws.{MayFollow}
-use Rattle.seg_ops.specs.vm_world.State.{KernelState, Caller, Sent, Seats, seats_of}
+use Rattle.flat_model.specs.Told.{entries_of}
+use Rattle.seg_ops.specs.vm_world.Events.{MayBear}
+use Rattle.seg_ops.specs.vm_world.State.{KernelState, Caller, Sent, Seats, room_of, seats_of}
 use Rattle.seg_ops.specs.vm_world.StateFits.{StateFits}
 use Rattle.vm_core.specs.Calls.{IsServed}
 
@@ -30,14 +35,23 @@ pub record IsTrip (t : TripSeen) : Type 0 where
   pub fresh : t.0.outcome ≡ fresh
   pub served : IsOfServed t.1
 
--- The state has three seats and fits with what they have outside, and no call is between two parts: any entry may come next.
+-- The state has these seats and fits with what they have outside, and no call is between two parts: any entry may come next.
 pub record IsTrialState (s : KernelState) (trips : List (Option TripSeen)) : Type 0 where
   pub opening : Flat
   pub fits : StateFits opening s (seats_with trips)
   pub follows : (e : Entry) → MayFollow s.history e
-  pub seats : length trips ≡ 3
-  pub seated : length s.syncs ≡ 3
+  pub seated : length s.syncs ≡ length trips
   pub each : (seat : ℕ) (t : TripSeen) → slice_index_or trips seat None ≡ Some t → IsTrip t
+
+-- The seat has nothing outside; and the call is well formed, and its process is alive, may make an entry more, and may bear a child where the call does.
+pub record MayTry (s : KernelState) (trips : List (Option TripSeen)) (seat : ℕ) (call : Call) : Type 0 where
+  pub low : seat + 1 < 2 ^ 32
+  pub within : seat < length trips
+  pub idle : slice_index_or trips seat None ≡ None
+  pub formed : IsWellFormed call
+  pub alive : IsSome (finite.get s.memory.spaces (seat + 1))
+  pub room : length (entries_of s.history (seat + 1)) < room_of s.entries (seat + 1)
+  pub bears : MayBear s (seat + 1) call
 
 -- A file of so many pages, from block 1 of its disk on.
 abbrev pub trial_file : List ℕ → ℕ → ℕ → ℕ → Bool → FileInfo

@@ -1,14 +1,11 @@
 //! A store that copies a page which is in swap, where each frame has a modified page: one push for the frame of the page that is read, the read, and no more, since the
 //! copy gets that page's frame. What is told of each act is worked out by hand.
-ghost use Rattle.std.specs.Prelude.{◌<◌, ◌≤◌};
-
+use crate::swap_tests::{Acts, Family, Run, closed_after, made_and_closed};
 use crate::tests::Act::{Do, Land, Try};
 use crate::tests::What::{Fork, Load, Store, Zero};
-use crate::tests::{STORED, make_all, swapping};
+use crate::tests::{STORED, make_all};
 use crate::trial::Told::{Done, Landed, Sent};
 use crate::trial::Trial;
-use block_device::DiskFault;
-use std::alloc::Global;
 use std::test::Fail;
 use vm_types::Reply::{Mapped, Word};
 
@@ -33,7 +30,7 @@ fn fill_frames(trial: &mut Trial) -> Result<(), Fail> {
 
 /// The child stores to a page that is in swap: a page is pushed, the page is read in, and the store is done. Its word at 4 of the page is its parent's still, which
 /// has its own page.
-fn copy_among_modified(trial: &mut Trial) -> Result<(), Fail> {
+pub(crate) fn copy_among_modified(trial: &mut Trial) -> Result<(), Fail> {
     fill_frames(trial)?;
     make_all(
         trial,
@@ -52,25 +49,14 @@ fn copy_among_modified(trial: &mut Trial) -> Result<(), Fail> {
     )
 }
 
-/// The transfer that failed at the close, and how many entries the history has.
-fn copied_and_closed(
-    alloc: Global,
-    frames: u32,
-    slots: u32,
-) -> Result<(Option<DiskFault>, usize), Fail>
-    requires frames { 4 < frames }
-    requires some { 0 < slots }
-    requires slots { slots ≤ 16 }
-{
-    let mut trial = swapping(alloc, frames, slots, [0, 1, 2])?;
-    copy_among_modified(&mut trial)?;
-    let finished = trial.finish()?;
-    Ok((finished.fault, finished.history.entries().len()))
-}
-
 #[test]
 fn a_store_that_copies_a_page_makes_two_transfers(rt: HostRuntime) -> Result<(), Fail> {
-    let made = copied_and_closed(rt.alloc(), 5, 16)?;
-    assert_eq!(rt; made, (None, 15));
+    let run = Run {
+        family: Family::Line,
+        frames: 5,
+        slots: 16,
+        acts: Acts::CopyAmongModified,
+    };
+    assert_eq!(rt; made_and_closed(rt.alloc(), run)?, closed_after(15, 1, 0));
     Ok(())
 }

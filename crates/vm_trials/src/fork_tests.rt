@@ -1,22 +1,13 @@
 //! Forks, over few frames and slots: pages that a parent and its child share until one of them stores, a grandchild, exits, and forks that are refused. What is
 //! told of each act is worked out by hand.
-ghost use Rattle.std.specs.Prelude.{◌<◌, ◌≤◌};
-
-use crate::tests::Act::{Clock, Do, Land, Try};
+use crate::swap_tests::{Acts, Family, Run, closed_after, made_and_closed};
+use crate::tests::Act::{Clock, Do, Land, Plan, Try};
 use crate::tests::What::{Exit, Fork, Load, New, Store, Unmap, Zero};
-use crate::tests::{NO_SWAP, STORED, make_all, swapping};
-use crate::trial::Told::{Done, Landed, Sent};
+use crate::tests::{NO_SWAP, STORED, make_all};
+use crate::trial::Told::{Done, Landed, Planned, Sent};
 use crate::trial::Trial;
-use block_device::DiskFault;
-use std::alloc::Global;
 use std::test::Fail;
 use vm_types::Reply::{Mapped, Word};
-
-/// Process 2 is a child of process 1, and process 3 one of process 2.
-const LINE: [u32; 3] = [0, 1, 2];
-
-/// Processes 2 and 3 are children of process 1.
-const PAIR: [u32; 3] = [0, 1, 1];
 
 /// Two private pages, one of which has a slot, and a shared page: a private one is of both until either stores, and a shared one stays so.
 fn pages_are_copied_late(trial: &mut Trial) -> Result<(), Fail> {
@@ -36,10 +27,10 @@ fn pages_are_copied_late(trial: &mut Trial) -> Result<(), Fail> {
             (Do(1, Store(0x8000, 0x88)), STORED),
             (Do(0, Load(0x8000)), Done(Word(0x88))),
             // The page that had no slot.
-            (Do(0, Store(0x3000, 5)), STORED),
-            (Do(1, Load(0x3000)), Done(Word(0))),
             (Do(1, Store(0x3000, 6)), STORED),
-            (Do(0, Load(0x3000)), Done(Word(5))),
+            (Do(0, Load(0x3000)), Done(Word(0))),
+            (Do(0, Store(0x3000, 5)), STORED),
+            (Do(1, Load(0x3000)), Done(Word(6))),
         ],
     )
 }
@@ -68,13 +59,13 @@ fn a_grandchild_stays(trial: &mut Trial) -> Result<(), Fail> {
     )
 }
 
-fn share_pages(trial: &mut Trial) -> Result<(), Fail> {
+pub(crate) fn share_pages(trial: &mut Trial) -> Result<(), Fail> {
     pages_are_copied_late(trial)?;
     a_grandchild_stays(trial)
 }
 
 /// Five private pages and eight slots: a Fork reserves as many more as its process has private pages. A child that is refused may be born later.
-fn forks_are_refused(trial: &mut Trial) -> Result<(), Fail> {
+pub(crate) fn forks_are_refused(trial: &mut Trial) -> Result<(), Fail> {
     make_all(
         trial,
         &[
@@ -140,60 +131,118 @@ fn a_page_is_pushed_during_a_fork(trial: &mut Trial) -> Result<(), Fail> {
     )
 }
 
-fn fork_during_transfers(trial: &mut Trial) -> Result<(), Fail> {
+/// Six pages through five frames, of which four at most have another page than the one that nobody uses: so each load brings one in, and the tenth at the latest takes the
+/// frame of that one.
+fn six_pages_are_used(trial: &mut Trial) -> Result<(), Fail> {
+    make_all(
+        trial,
+        &[
+            (Do(1, Load(0x2000)), Done(Word(0x55))),
+            (Do(1, Load(0x4000)), Done(Word(3))),
+            (Do(1, Load(0x5000)), Done(Word(4))),
+            (Do(1, Load(0x6000)), Done(Word(5))),
+            (Do(1, Load(0x7000)), Done(Word(6))),
+            (Do(1, Load(0x8000)), Done(Word(7))),
+        ],
+    )
+}
+
+/// A page of a parent is in swap alone, so that a load needs it. The child, a grandchild of who stored it, stores there: it gets a page of its own.
+fn a_grandchild_stores_into_a_page_in_swap(trial: &mut Trial) -> Result<(), Fail> {
+    six_pages_are_used(trial)?;
+    six_pages_are_used(trial)?;
+    make_all(
+        trial,
+        &[
+            (Plan(1, Load(0x3000)), Planned),
+            (Do(2, Store(0x3000, 0x77)), STORED),
+            (Do(1, Load(0x3000)), Done(Word(2))),
+            (Do(2, Load(0x3000)), Done(Word(0x77))),
+        ],
+    )
+}
+
+pub(crate) fn fork_during_transfers(trial: &mut Trial) -> Result<(), Fail> {
     a_parent_ends_during_a_read(trial)?;
-    a_page_is_pushed_during_a_fork(trial)
+    a_page_is_pushed_during_a_fork(trial)?;
+    a_grandchild_stores_into_a_page_in_swap(trial)
 }
 
-/// What is made with a state.
-#[derive(Clone, Copy)]
-enum Acts {
-    SharePages,
-    AreRefused,
-    ForkDuringTransfers,
-}
-
-fn make(trial: &mut Trial, acts: Acts) -> Result<(), Fail> {
-    match acts {
-        Acts::SharePages => share_pages(trial),
-        Acts::AreRefused => forks_are_refused(trial),
-        Acts::ForkDuringTransfers => fork_during_transfers(trial),
-    }
-}
-
-/// The transfer that failed at the close, and how many entries the history has.
-fn forked_and_closed(
-    alloc: Global,
-    parents: [u32; 3],
-    slots: u32,
-    acts: Acts,
-) -> Result<(Option<DiskFault>, usize), Fail>
-    requires some { 0 < slots }
-    requires slots { slots ≤ 16 }
-{
-    let mut trial = swapping(alloc, 5, slots, parents)?;
-    make(&mut trial, acts)?;
-    let finished = trial.finish()?;
-    Ok((finished.fault, finished.history.entries().len()))
+/// Seven private pages through five frames, of which one is in swap alone. A process forks between the plan of a read of it and the read's begin: the plan is dropped,
+/// and both find the page.
+pub(crate) fn a_fork_drops_a_plan(trial: &mut Trial) -> Result<(), Fail> {
+    make_all(
+        trial,
+        &[
+            (Do(0, Zero(0x2000, 0x7000)), Done(Mapped(0x2000))),
+            (Do(0, Store(0x2000, 1)), STORED),
+            (Do(0, Store(0x3000, 2)), STORED),
+            (Do(0, Store(0x4000, 3)), STORED),
+            (Do(0, Store(0x5000, 4)), STORED),
+            (Do(0, Store(0x6000, 5)), STORED),
+            (Do(0, Store(0x7000, 6)), STORED),
+            (Do(0, Store(0x8000, 7)), STORED),
+            (Plan(0, Load(0x3000)), Planned),
+            (Do(0, Fork(2)), STORED),
+            // Its own child's load is planned as another one is born.
+            (Plan(1, Load(0x3000)), Planned),
+            (Do(0, Fork(3)), NO_SWAP),
+            (Do(0, Unmap(0x7000, 0x2000)), STORED),
+            (Do(1, Unmap(0x7000, 0x2000)), STORED),
+            (Plan(1, Load(0x3000)), Planned),
+            (Do(0, Fork(3)), STORED),
+            (Do(2, Store(0x3000, 9)), STORED),
+            (Do(1, Load(0x3000)), Done(Word(2))),
+            (Do(0, Load(0x3000)), Done(Word(2))),
+            (Do(2, Load(0x3000)), Done(Word(9))),
+        ],
+    )
 }
 
 #[test]
 fn a_child_and_a_grandchild_have_their_own_pages(rt: HostRuntime) -> Result<(), Fail> {
-    let made = forked_and_closed(rt.alloc(), LINE, 8, Acts::SharePages)?;
-    assert_eq!(rt; made, (None, 30));
+    let run = Run {
+        family: Family::Line,
+        frames: 5,
+        slots: 8,
+        acts: Acts::SharePages,
+    };
+    assert_eq!(rt; made_and_closed(rt.alloc(), run)?, closed_after(30, 2, 0));
     Ok(())
 }
 
 #[test]
 fn a_fork_that_is_refused_bears_nobody(rt: HostRuntime) -> Result<(), Fail> {
-    let made = forked_and_closed(rt.alloc(), PAIR, 8, Acts::AreRefused)?;
-    assert_eq!(rt; made, (None, 13));
+    let run = Run {
+        family: Family::Pair,
+        frames: 5,
+        slots: 8,
+        acts: Acts::RefuseForks,
+    };
+    assert_eq!(rt; made_and_closed(rt.alloc(), run)?, closed_after(13, 2, 2));
     Ok(())
 }
 
 #[test]
 fn processes_fork_and_end_during_transfers(rt: HostRuntime) -> Result<(), Fail> {
-    let made = forked_and_closed(rt.alloc(), LINE, 16, Acts::ForkDuringTransfers)?;
-    assert_eq!(rt; made, (None, 19));
+    let run = Run {
+        family: Family::Line,
+        frames: 5,
+        slots: 16,
+        acts: Acts::ForkDuringTransfers,
+    };
+    assert_eq!(rt; made_and_closed(rt.alloc(), run)?, closed_after(34, 2, 0));
+    Ok(())
+}
+
+#[test]
+fn a_process_forks_between_a_plan_and_its_begin(rt: HostRuntime) -> Result<(), Fail> {
+    let run = Run {
+        family: Family::Pair,
+        frames: 5,
+        slots: 16,
+        acts: Acts::DropAPlan,
+    };
+    assert_eq!(rt; made_and_closed(rt.alloc(), run)?, closed_after(17, 2, 1));
     Ok(())
 }

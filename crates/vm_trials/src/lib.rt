@@ -6,6 +6,10 @@ mod copy_tests;
 #[cfg(test)]
 mod fork_tests;
 #[cfg(test)]
+mod histories;
+#[cfg(test)]
+mod many_tests;
+#[cfg(test)]
 mod mapping_tests;
 #[cfg(test)]
 mod page_tests;
@@ -13,6 +17,8 @@ mod page_tests;
 mod segment_tests;
 #[cfg(test)]
 mod slot_tests;
+#[cfg(test)]
+mod swap_tests;
 #[cfg(test)]
 mod tests;
 #[cfg(test)]

@@ -1,6 +1,6 @@
 //! Two processes over two disks in memory, of which one fails twice: their calls, transfers and turns of the clock, act by act, and the close. What is told
 //! of each act is worked out by hand.
-ghost use Rattle.std.specs.Prelude.{◌≡◌, ◌<◌, ◌≤◌, ℕ, List, true, false, IfOk};
+ghost use Rattle.std.specs.Prelude.{◌≡◌, ◌<◌, ℕ, List, true, false, IfOk};
 ghost use Rattle.block_device.specs.MemDiskLook.{look};
 ghost use Rattle.block_device.specs.MemSeen.{disk_of};
 ghost use Rattle.vm_core.specs.Calls.{IsServed};
@@ -10,7 +10,7 @@ use crate::mapping_tests::{change_mappings, sync_pages};
 use crate::trial::Told::{self, Busy, Done, Landed, Sent, Still};
 use crate::trial::Trial;
 use Act::{Clock, Do, Land, Try};
-use What::{Exit, Load, Map, Protect, Store, Unmap, Zero};
+use What::{Exit, Load, Map, Protect, Store, Unmap};
 use block_device::{Block, DiskFault, MemDisk};
 use seg_ops::Hold;
 use std::alloc::{AllocError, Global};
@@ -116,35 +116,7 @@ fn started(alloc: Global) -> Result<Trial, Fail> {
         seats: 3,
     };
     match VmState::start(alloc, setup) {
-        Ok(state) => Ok(Trial::new(state)),
-        Err(_) => Err(Fail::new("no memory for the state")),
-    }
-}
-
-/// Three processes with these parents over so many frames and four translations, with so many swap slots and no file.
-pub(crate) fn swapping(
-    alloc: Global,
-    frames: u32,
-    slots: u32,
-    parents: [u32; 3],
-) -> Result<Trial, Fail>
-    requires frames { 5 ≤ frames }
-    requires some { 0 < slots }
-    requires slots { slots ≤ 16 }
-{
-    let setup = Setup {
-        frames,
-        translations: 4,
-        slots,
-        disks: Vec::new(alloc),
-        swap: Some(new_disk(alloc, 0, &[])?),
-        files: Files::new(alloc),
-        parents: parents.to_vec(alloc)?,
-        entries: [99u32, 99, 99].to_vec(alloc)?,
-        seats: 3,
-    };
-    match VmState::start(alloc, setup) {
-        Ok(state) => Ok(Trial::new(state)),
+        Ok(state) => Trial::new(alloc, state, 3),
         Err(_) => Err(Fail::new("no memory for the state")),
     }
 }
@@ -555,64 +527,6 @@ pub(crate) fn make_all(trial: &mut Trial, acts: &[(Act, Told)]) -> Result<(), Fa
     Ok(())
 }
 
-/// A page is replaced while its push is out: the new page takes its slot, and the old one's push does it no harm.
-fn a_page_goes_during_its_push(trial: &mut Trial) -> Result<(), Fail> {
-    make_all(
-        trial,
-        &[
-            (Do(0, Zero(0x2000, 0x2000)), NO_SWAP),
-            (Do(0, Zero(0x2000, 0x1000)), Done(Mapped(0x2000))),
-            (Do(0, Store(0x2000, 0x11)), STORED),
-            (Clock(1, 32), Sent),
-            (Do(0, Zero(0x2000, 0x1000)), Done(Mapped(0x2000))),
-            (Do(0, Load(0x2000)), Done(Word(0))),
-            (Do(0, Store(0x2000, 0x22)), STORED),
-            (Land(1), Landed),
-            (Clock(1, 32), Sent),
-            (Land(1), Landed),
-            (Clock(1, 32), Still),
-            (Do(0, Load(0x2000)), Done(Word(0x22))),
-        ],
-    )
-}
-
-/// A page is stored into while its push is out: it shows the word, and goes out once more.
-fn a_page_is_stored_into_during_its_push(trial: &mut Trial) -> Result<(), Fail> {
-    make_all(
-        trial,
-        &[
-            (Do(0, Store(0x2000, 0x11)), STORED),
-            (Clock(1, 32), Sent),
-            (Try(0, Load(0x2000)), Done(Word(0x11))),
-            (Try(0, Store(0x2000, 0x22)), STORED),
-            (Land(1), Landed),
-            (Do(0, Load(0x2000)), Done(Word(0x22))),
-            (Clock(1, 32), Sent),
-            (Land(1), Landed),
-        ],
-    )
-}
-
-/// A page is unmapped while its push is out; what is mapped in its place takes its slot.
-fn a_page_is_unmapped_during_its_push(trial: &mut Trial) -> Result<(), Fail> {
-    make_all(
-        trial,
-        &[
-            (Do(0, Store(0x2000, 0x33)), STORED),
-            (Clock(1, 32), Sent),
-            (Do(0, Unmap(0x2000, 0x1000)), STORED),
-            (Do(0, Load(0x2000)), NO_MAP),
-            (Do(0, Zero(0x2000, 0x1000)), Done(Mapped(0x2000))),
-            (Do(0, Store(0x2000, 0x44)), STORED),
-            (Land(1), Landed),
-            (Clock(1, 32), Sent),
-            (Land(1), Landed),
-            (Clock(1, 32), Still),
-            (Do(0, Load(0x2000)), Done(Word(0x44))),
-        ],
-    )
-}
-
 fn use_files(trial: &mut Trial) -> Result<(), Fail> {
     a_read_fails(trial)?;
     hands_push(trial)?;
@@ -693,25 +607,5 @@ fn two_processes_use_files_through_few_frames(rt: HostRuntime) -> Result<(), Fai
         wrong: None,
     };
     assert_eq!(rt; made_and_closed(rt.alloc(), Acts::UseFiles)?, due);
-    Ok(())
-}
-
-fn push_a_private_page(trial: &mut Trial) -> Result<(), Fail> {
-    a_page_goes_during_its_push(trial)?;
-    a_page_is_stored_into_during_its_push(trial)?;
-    a_page_is_unmapped_during_its_push(trial)
-}
-
-/// The transfer that failed at the close, and how many entries the history has.
-fn pushed_and_closed(alloc: Global) -> Result<(Option<DiskFault>, usize), Fail> {
-    let mut trial = swapping(alloc, 8, 1, [0; 3])?;
-    push_a_private_page(&mut trial)?;
-    let finished = trial.finish()?;
-    Ok((finished.fault, finished.history.entries().len()))
-}
-
-#[test]
-fn a_private_page_goes_to_swap(rt: HostRuntime) -> Result<(), Fail> {
-    assert_eq!(rt; pushed_and_closed(rt.alloc())?, (None, 17));
     Ok(())
 }

@@ -1,19 +1,17 @@
-//! A state with what three seats have outside it, for tests: calls are tried, transfers begin and end, and hands move.
-ghost use Rattle.std.specs.Prelude.{◌≡◌, ◌<◌, ◌∷◌, [], ℕ, Some, None, IsTrue, option_map, slice_index_or, slice_set};
+//! A state with what its seats have outside it, for tests: calls are tried, transfers begin and end, and hands move.
+ghost use Rattle.std.specs.Prelude.{◌≡◌, ◌<◌, ℕ, Some, None, IsSome, IsTrue, IfOk, length, option_map, replicate, slice_index_or, slice_set};
 ghost use Rattle.vm_core.specs.Calls.{IsServed};
 ghost use Rattle.seg_ops.specs.vm_world.Events.{MayBear};
-ghost use Rattle.vm_trials.specs.Trials.{IsTrialState, IsOfServed};
+ghost use Rattle.vm_trials.specs.Trials.{IsTrialState, IsOfServed, MayTry};
 
 use block_device::MemDisk;
 use seg_ops::{Flight, Hold, Plan};
+use std::alloc::{AllocError, Global};
 use std::marker::Model;
 use std::mem;
 use std::test::Fail;
 use vm_core::{Attempt, Finished, VmState};
 use vm_types::{Call, Reply};
-
-/// How many seats there are.
-pub(crate) const SEATS: usize = 3;
 
 /// What a seat has outside: its transfer, and the process and call that it is for.
 type SentFlight = (Flight<MemDisk>, Option<(u32, Call)>);
@@ -33,11 +31,11 @@ pub(crate) enum Told {
     Still,
 }
 
-/// A state that fits, with what its three seats have outside; seat k is that of process k + 1. Contracts see nothing of it.
+/// A state that fits, with what its seats have outside; seat k is that of process k + 1. Contracts see nothing of it.
 #[derive(Drop)]
 pub(crate) struct Trial {
     state: VmState<MemDisk>,
-    trips: [Option<SentFlight>; SEATS],
+    trips: Vec<Option<SentFlight>>,
 }
 
 impl Model for Trial {
@@ -48,42 +46,71 @@ impl Model for Trial {
 
     ghost view = { λ t. 0 };
 
-    ghost invariant = { λ t. IsTrialState t.state t.trips };
+    ghost invariant = { λ t. IsTrialState t.state t.trips.items };
 }
 
 /// Begins the transfer of the plan that is kept.
 fn send(
     state: &mut VmState<MemDisk>,
-    trips: &mut [Option<SentFlight>; SEATS],
+    trips: &mut Vec<Option<SentFlight>>,
     seat: u32,
     plan: Plan,
     of: Option<(u32, Call)>,
 )
     // The plan is kept for the seat, which has nothing outside.
-    requires trial { IsTrialState state.old trips.old }
-    requires seat { seat < 3 }
-    requires idle { slice_index_or trips.old seat None ≡ None }
+    requires trial { IsTrialState state.old trips.old.items }
+    requires seat { seat < length trips.old.items }
+    requires idle { slice_index_or trips.old.items seat None ≡ None }
     requires kept { state.old.plan ≡ Some (record { seat = seat; plan = plan; of = of }) }
     requires served { IsOfServed of }
     // Its transfer is outside.
-    ensures { IsTrialState state.new trips.new }
+    ensures { IsTrialState state.new trips.new.items }
 {
     let flight = state.begin(seat, plan);
     trips[seat as usize] = Some((flight, of));
 }
 
-fn is_idle(trips: &[Option<SentFlight>; SEATS], seat: u32) -> bool
-    ensures { IsTrue result → (seat < 3) × (slice_index_or trips.now seat None ≡ None) }
+/// Seats with nothing outside.
+fn idle_seats(alloc: Global, seats: u32) -> Result<Vec<Option<SentFlight>>, AllocError>
+    ensures { IfOk result (λ trips. trips.items ≡ replicate seats None) }
 {
-    seat < 3 && trips[seat as usize].is_none()
+    let mut trips = Vec::new(alloc);
+    for _seat in 0..seats {
+        trips.push(None)?;
+    }
+    Ok(trips)
 }
 
-fn are_idle(trips: &[Option<SentFlight>; SEATS]) -> bool
-    ensures { IsTrue result → (slice_index_or trips.now 0 None ≡ None)
-        × (slice_index_or trips.now 1 None ≡ None)
-        × (slice_index_or trips.now 2 None ≡ None) }
+fn is_idle(trips: &Vec<Option<SentFlight>>, seat: u32) -> bool
+    ensures { IsTrue result
+        → (seat < length trips.now.items) × (slice_index_or trips.now.items seat None ≡ None) }
 {
-    is_idle(trips, 0) && is_idle(trips, 1) && is_idle(trips, 2)
+    (seat as usize) < trips.len() && trips[seat as usize].is_none()
+}
+
+fn is_out(trips: &Vec<Option<SentFlight>>, seat: u32) -> bool
+    ensures { IsTrue result
+        → (seat < length trips.now.items) × IsSome (slice_index_or trips.now.items seat None) }
+{
+    (seat as usize) < trips.len() && trips[seat as usize].is_some()
+}
+
+fn is_idle_at(trips: &[Option<SentFlight>], seat: usize) -> bool
+    requires { seat < length trips.now }
+    ensures { IsTrue result → slice_index_or trips.now seat None ≡ None }
+{
+    trips[seat].is_none()
+}
+
+fn are_idle(trips: &[Option<SentFlight>]) -> bool
+    ensures { IsTrue result → (seat : ℕ) → slice_index_or trips.now seat None ≡ None }
+{
+    for seat in 0..trips.len() {
+        if !is_idle_at(trips, seat) {
+            return false;
+        }
+    }
+    true
 }
 
 /// Whether a process may make a call: where it is a Fork, of a child of its own that was never alive.
@@ -96,11 +123,31 @@ fn can_bear(state: &VmState<MemDisk>, process: u32, call: &Call) -> bool
     }
 }
 
+/// Whether a seat has nothing outside, and its process may make the call.
+fn may_try(
+    state: &VmState<MemDisk>,
+    trips: &Vec<Option<SentFlight>>,
+    seat: u32,
+    call: &Call,
+) -> bool
+    ensures { IsTrue result → MayTry state.now trips.now.items seat call.now }
+{
+    if seat == u32::MAX
+        || !is_idle(trips, seat)
+        || !call.is_well_formed()
+        || !state.is_alive(seat + 1)
+        || state.room(seat + 1) == 0
+    {
+        return false;
+    }
+    can_bear(state, seat + 1, call)
+}
+
 /// What a seat has outside, taken out.
-fn take(trips: &mut [Option<SentFlight>; SEATS], seat: u32) -> Option<SentFlight>
-    requires { seat < 3 }
-    ensures trip { result ≡ slice_index_or trips.old seat None }
-    ensures new { trips.new ≡ slice_set trips.old seat None }
+fn take(trips: &mut Vec<Option<SentFlight>>, seat: u32) -> Option<SentFlight>
+    requires { seat < length trips.old.items }
+    ensures trip { result ≡ slice_index_or trips.old.items seat None }
+    ensures new { trips.new.items ≡ slice_set trips.old.items seat None }
 {
     mem::replace(&mut trips[seat as usize], None)
 }
@@ -115,30 +162,22 @@ fn lent(of: &Option<(u32, Call)>) -> Option<(u32, &Call)>
 }
 
 impl Trial {
-    pub(crate) fn new(state: VmState<MemDisk>) -> Trial
-        requires { IsTrialState state (None ∷ None ∷ None ∷ []) }
+    /// The state of so many seats, with nothing outside.
+    pub(crate) fn new(alloc: Global, state: VmState<MemDisk>, seats: u32) -> Result<Trial, Fail>
+        requires { IsTrialState state (replicate seats None) }
     {
-        Trial {
-            state,
-            trips: [None, None, None],
-        }
+        let trips = idle_seats(alloc, seats)?;
+        Ok(Trial { state, trips })
     }
 
     /// Tries a call once. A transfer that it needs begins, where this says so.
     pub(crate) fn try_call(&mut self, seat: u32, call: &Call, begins: bool) -> Result<Told, Fail>
         requires { IsServed call.now }
     {
-        if !is_idle(&self.trips, seat) {
-            return Err(Fail::new("the seat isn't idle"));
-        }
-        let process = seat + 1;
-        if !call.is_well_formed()
-            || !self.state.is_alive(process)
-            || self.state.room(process) == 0
-            || !can_bear(&self.state, process, call)
-        {
+        if !may_try(&self.state, &self.trips, seat, call) {
             return Err(Fail::new("the process can't make the call"));
         }
+        let process = seat + 1;
         match self.state.try_call(seat, process, call)? {
             Attempt::Done(reply) => Ok(Told::Done(reply)),
             Attempt::Busy(hold) => Ok(Told::Busy(hold)),
@@ -153,7 +192,7 @@ impl Trial {
 
     /// Makes and ends the transfer that a seat has outside.
     pub(crate) fn land(&mut self, seat: u32) -> Result<Told, Fail> {
-        if seat >= 3 || self.trips[seat as usize].is_none() {
+        if !is_out(&self.trips, seat) {
             return Err(Fail::new("the seat has nothing outside"));
         }
         let Some((mut flight, of)) = take(&mut self.trips, seat) else {
@@ -209,7 +248,7 @@ impl Trial {
     }
 
     pub(crate) fn finish(self) -> Result<Finished<MemDisk>, Fail> {
-        if !are_idle(&self.trips) {
+        if !are_idle(self.trips.as_slice()) {
             return Err(Fail::new("a seat has something outside"));
         }
         Ok(self.state.finish())

@@ -1,12 +1,11 @@
 //! Zero objects by number, which two processes share over few frames and slots. What is told of each act is worked out by hand.
 ghost use Rattle.vm_core.specs.Calls.{IsServed};
 
-use crate::tests::{NO_OBJECT, NO_SWAP, PAST, STORED, swapping};
+use crate::swap_tests::{Acts, Family, Run, closed_after, made_and_closed};
+use crate::tests::{NO_OBJECT, NO_SWAP, PAST, STORED};
 use crate::trial::Told::{self, Done};
 use crate::trial::Trial;
 use What::{Exit, Load, New, Private, Shared, Store};
-use block_device::DiskFault;
-use std::alloc::Global;
 use std::test::Fail;
 use vm_types::Reply::{Mapped, Word};
 use vm_types::{Call, Kind, Object, Place, Prot};
@@ -166,7 +165,7 @@ fn it_is_gone(trial: &mut Trial) -> Result<(), Fail> {
     )
 }
 
-fn share_zero_objects(trial: &mut Trial) -> Result<(), Fail> {
+pub(crate) fn share_zero_objects(trial: &mut Trial) -> Result<(), Fail> {
     an_object_is_shared(trial)?;
     a_private_mapping_shows_it(trial)?;
     its_pages_go_to_swap(trial)?;
@@ -174,16 +173,14 @@ fn share_zero_objects(trial: &mut Trial) -> Result<(), Fail> {
     it_is_gone(trial)
 }
 
-/// The transfer that failed at the close, and how many entries the history has.
-fn shared_and_closed(alloc: Global) -> Result<(Option<DiskFault>, usize), Fail> {
-    let mut trial = swapping(alloc, 6, 8, [0; 3])?;
-    share_zero_objects(&mut trial)?;
-    let finished = trial.finish()?;
-    Ok((finished.fault, finished.history.entries().len()))
-}
-
 #[test]
 fn two_processes_share_zero_objects(rt: HostRuntime) -> Result<(), Fail> {
-    assert_eq!(rt; shared_and_closed(rt.alloc())?, (None, 50));
+    let run = Run {
+        family: Family::Apart,
+        frames: 6,
+        slots: 8,
+        acts: Acts::ShareZeroObjects,
+    };
+    assert_eq!(rt; made_and_closed(rt.alloc(), run)?, closed_after(50, 0, 0));
     Ok(())
 }

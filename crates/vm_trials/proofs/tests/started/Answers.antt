@@ -20,4 +20,4 @@ start-requires-clause-files c =
     (on-disks f.0 f.1 (λ d. disk_of (look d)) c.push_reserved-2.new.self.items first second items c.in_ok-new_disk.ensures c.in_ok-new_disk-2.ensures)
 
 pub new-requires : goal.new-requires
-new-requires c = trial-starts c.in-Ok.state _ c.in-Ok.ensures.fits c.in-Ok.ensures.opening.history c.in-Ok.ensures.made.seats
+new-requires c = trial-starts c.in-Ok.state _ 3 c.in-Ok.ensures.fits c.in-Ok.ensures.opening.history c.in-Ok.ensures.made.seats
