@@ -31,4 +31,7 @@ pub mod ClearedTails
 pub mod Reached
 pub mod Opens
 pub mod Grown
+pub mod Values
+pub mod Shapes
+pub mod ShapeSteps
 pub use Rattle.vnode_files.proofs as vnode_files

@@ -37,5 +37,6 @@ pub mod ReachedLaws
 pub mod TailLaws
 pub mod GrownLaws
 pub mod ProtectLaws
+pub mod Shapes
 pub use Rattle.vm_types.specs as vm_types
 pub use Rattle.vnode_files.specs as vnode_files

@@ -17,7 +17,7 @@ pub use laws::{
 };
 pub use mapping_laws::{cleared_tails_law, protects_law, stays_reached_law};
 pub use page_laws::{grown_pages_law, lines_in_pages_law, one_cache_law, shared_store_law};
-pub use step_laws::{births_law, steps_keep_law};
+pub use step_laws::{births_law, keeps_shape_law, steps_keep_law};
 pub use vm_types::{
     Call, END_PAGE, Entry, Errno, Kind, Line, Object, PAGE_SIZE, Place, Prot, Reply, Signal,
     bytes_before, ends_call, is_range, line_rest, page_of, pages_in, part_file, word_bytes,
