@@ -21,6 +21,7 @@ use Rattle.flat_model.specs.CountLaws.{IsNextCount}
 use Rattle.flat_model.specs.OpenLaws.{MayFollow}
 use Rattle.flat_model.specs.Flat.{Flat, IsFlat, space_of}
 use Rattle.flat_model.specs.History.{replay, IsSyncStart, IsStart, is_io}
+use Rattle.flat_model.specs.Shapes.{RespectsShape}
 use Rattle.flat_model.specs.Step.{is_bit_set, IsUnborn}
 use Rattle.flat_model.specs.Told.{entries_of}
 use Rattle.flat_model.proofs.WellFormed.{IsFlat-tails_cleared}
@@ -40,6 +41,7 @@ use Rattle.vm_world.proofs.Callers.{caller-kept, caller-longer}
 use Rattle.vm_world.proofs.Changes.{machine-kept, changes-then}
 use Rattle.vm_world.proofs.Entries.{entry-history, entry-faults, entry-calls, entry-rooms, entry-births, entry-part, not-left}
 use Rattle.vm_world.proofs.MayFails.{alive-flat}
+use Rattle.vm_world.proofs.Shapes.{follows-entry, tables-shape}
 use Rattle.vm_world.proofs.StateSteps.{same-seats, sizes-still}
 
 -- a call that is no Fork makes no process
@@ -104,14 +106,15 @@ rule-pages old new spaces e act = record {
   notes = act.notes;
   tells = act.tells;
   flat = act.acts;
+  shaped = λ born notes. tables-shape old new spaces born notes notes act.tables ∙ sym (act.shaped born notes);
 }
 
 -- ONE CHANGE AFTER ANOTHER.
 rule-joined : (p : ℕ) (u v w : Memory) (first second : Flat → Flat)
     → ((born : set.FinSet nat_cmp) (notes : Notes) → NotesFit u.world notes → AllTell u.world notes → IsFlat (flat_memory u born notes) → IsFlat (first (flat_memory u born notes)))
-    → ChangesMemory p u v (λ F G. G ≡ first F) → ChangesMemory p v w (λ F G. G ≡ second F) → ChangesMemory p u w (λ F G. G ≡ second (first F))
-rule-joined p u v w first second whole =
-    changes-then p u v w (λ F G. G ≡ first F) (λ F G. G ≡ second F) (λ F G. G ≡ second (first F)) (λ born notes nf tell is x. subst IsFlat (sym x) (whole born notes nf tell is)) (λ F G H x y. y ∙ ap second x)
+    → RespectsShape second → ChangesMemory p u v first → ChangesMemory p v w second → ChangesMemory p u w (λ F. second (first F))
+rule-joined p u v w first second whole respects =
+    changes-then p u v w first second (λ F G. G ≡ first F) (λ F G. G ≡ second F) (λ F G. G ≡ second (first F)) respects (λ born notes nf tell is x. subst IsFlat (sym x) (whole born notes nf tell is)) (λ F G H x y. y ∙ ap second x)
 
 -- DONE.
 pub rule-done : (s : KernelState) (new : Memory) (seat : ℕ) (e : Entry) (calls syncs : List (Option ℕ)) → ActsOnMemory s.memory new e → StaysAlive new e.process e.call → MayEnter s seat e → LocksAfter e s.calls calls → StartsAfter e s.syncs syncs → length syncs ≡ length s.syncs
@@ -130,6 +133,7 @@ rule-done s new seat e calls syncs act keeps may locks starts count = record {
   };
   sizes = λ opening seats is fit. sizes-still s (with_entry_made (record s { memory = new }) e calls syncs) seat None act.machine.bays seats is;
   grown = (e ∷ [], refl, All-cons (λ (x : Entry). seat_of x.process ≡ seat) e [] may.try.own (All-nil (λ (x : Entry). seat_of x.process ≡ seat)));
+  follows = λ opening was. follows-entry opening s (with_entry_made (record s { memory = new }) e calls syncs) e refl (λ notes. act.shaped s.born notes) (λ own. may.refusal) was;
 }
   where
     -- who is alive was born: the process itself was, and no other came

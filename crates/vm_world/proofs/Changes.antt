@@ -4,9 +4,11 @@ use Rattle.std.specs.Ordering.{nat_cmp}
 use Rattle.std.specs.FinSet as set
 use Rattle.page_store.specs.Notes.{Notes}
 use Rattle.flat_model.specs.Flat.{Flat, IsFlat}
-use Rattle.vm_world.specs.CallSteps.{KeepsMachine, ChangesMemory}
+use Rattle.flat_model.specs.Shapes.{RespectsShape, without_bytes}
+use Rattle.vm_world.specs.CallSteps.{KeepsMachine, TurnsMemory}
 use Rattle.vm_world.specs.FlatMemory.{Memory, flat_memory}
 use Rattle.vm_world.specs.NotesFit.{NotesFit}
+use Rattle.vm_world.specs.SegmentSteps.{ChangesSegments}
 use Rattle.vm_world.specs.SpaceSteps.{Becomes}
 use Rattle.vm_world.specs.World.{World, core_of, AllTell}
 use Rattle.vm_world.specs.WorldSteps.{KeepsTables}
@@ -26,11 +28,11 @@ machine-then u v w a b = record {
   bays = b.bays ∙ a.bays;
 }
 
--- one change after another, where the first leaves flat memory well formed
-pub changes-then : (p : ℕ) (u v w : Memory) (one two both : Flat → Flat → Type 0)
+-- one change after another, where the first leaves flat memory well formed and the second respects its shape
+pub changes-then : (p : ℕ) (u v w : Memory) (first second : Flat → Flat) (one two both : Flat → Flat → Type 0) → RespectsShape second
     → ((born : set.FinSet nat_cmp) (notes : Notes) → NotesFit u.world notes → AllTell u.world notes → IsFlat (flat_memory u born notes) → one (flat_memory u born notes) (flat_memory v born notes) → IsFlat (flat_memory v born notes))
-    → ((F G H : Flat) → one F G → two G H → both F H) → ChangesMemory p u v one → ChangesMemory p v w two → ChangesMemory p u w both
-changes-then p u v w one two both whole join a b = record {
+    → ((F G H : Flat) → one F G → two G H → both F H) → TurnsMemory p u v first one → TurnsMemory p v w second two → TurnsMemory p u w (λ F. second (first F)) both
+changes-then p u v w first second one two both respects whole join a b = record {
   machine = machine-then u.world v.world w.world a.machine b.machine;
   others = λ q far. b.others q far ∙ a.others q far;
   memory = b.memory;
@@ -39,13 +41,14 @@ changes-then p u v w one two both whole join a b = record {
   flat = λ born notes nf tell is.
       let x = a.flat born notes nf tell is in
       join (flat_memory u born notes) (flat_memory v born notes) (flat_memory w born notes) x (b.flat born notes (a.notes notes nf) ((a.tells notes nf).0 tell) (whole born notes nf tell is x));
+  shaped = λ born notes. b.shaped born notes ∙ respects (flat_memory v born notes) (first (flat_memory u born notes)) (a.shaped born notes);
 }
 
-pub becomes-then : (p : ℕ) (u v w : Memory) (first second : Flat → Flat) → ChangesMemory p u v (Becomes first) → ChangesMemory p v w (Becomes second) → ChangesMemory p u w (Becomes (λ F. second (first F)))
-becomes-then p u v w first second =
-    changes-then p u v w (Becomes first) (Becomes second) (Becomes (λ F. second (first F))) (λ born notes nf tell is x. x.1) (λ F G H x y. (y.0 ∙ ap second x.0, y.1))
+pub becomes-then : (p : ℕ) (u v w : Memory) (first second : Flat → Flat) → RespectsShape second → ChangesSegments p u v first → ChangesSegments p v w second → ChangesSegments p u w (λ F. second (first F))
+becomes-then p u v w first second respects =
+    changes-then p u v w first second (Becomes first) (Becomes second) (Becomes (λ F. second (first F))) respects (λ born notes nf tell is x. x.1) (λ F G H x y. (y.0 ∙ ap second x.0, y.1))
 
-pub becomes-same : (p : ℕ) (u v : Memory) (f g : Flat → Flat) → ((born : set.FinSet nat_cmp) (notes : Notes) → f (flat_memory u born notes) ≡ g (flat_memory u born notes)) → ChangesMemory p u v (Becomes f) → ChangesMemory p u v (Becomes g)
+pub becomes-same : (p : ℕ) (u v : Memory) (f g : Flat → Flat) → ((born : set.FinSet nat_cmp) (notes : Notes) → f (flat_memory u born notes) ≡ g (flat_memory u born notes)) → ChangesSegments p u v f → ChangesSegments p u v g
 becomes-same p u v f g same c = record {
   machine = c.machine;
   others = c.others;
@@ -53,4 +56,5 @@ becomes-same p u v f g same c = record {
   notes = c.notes;
   tells = c.tells;
   flat = λ born notes nf tell is. let x = c.flat born notes nf tell is in (x.0 ∙ same born notes, x.1);
+  shaped = λ born notes. c.shaped born notes ∙ ap without_bytes (same born notes);
 }

@@ -34,7 +34,7 @@ use Rattle.vm_world.specs.MemoryFits.{MemoryFits}
 use Rattle.vm_world.specs.Pages.{place_contents, page_value, contents_of}
 use Rattle.vm_world.specs.SegmentSteps.{upper_pages, parts_cut, with_part_cut, ChangesSegments}
 use Rattle.vm_world.specs.Segments.{Segment, Spot, Spaces, spot_at, zero_map, own_slot, object_name}
-use Rattle.vm_world.specs.SpaceSteps.{Becomes, first_pages}
+use Rattle.vm_world.specs.SpaceSteps.{first_pages}
 use Rattle.vm_world.specs.World.{slot_in, slot_name}
 use Rattle.vm_world.proofs.ComingParts.{zero-there, zero-pages-of, own-is-unshown}
 use Rattle.vm_world.proofs.KeptMaps.{KeepsMaps, Touches, same-places, same-there, kept-fits, kept-cell, others-keep, own-there, shown-there, all-both, all-every, slot-in-same}
@@ -513,8 +513,8 @@ module _ (m : Memory) (p page number : ℕ) (parts : List (Part Segment)) (x : P
       omega (arith, c, d, e, f))
 
   -- FLAT MEMORY stays
-  flat : (born : set.FinSet nat_cmp) (notes : Notes) → IsFlat (flat_memory m born notes) → Becomes (λ F. F) (flat_memory m born notes) (flat_memory (with_part_cut m p page number parts x) born notes)
-  flat born notes whole =
+  flat-is : (born : set.FinSet nat_cmp) (notes : Notes) → flat_memory (with_part_cut m p page number parts x) born notes ≡ flat_memory m born notes
+  flat-is born notes =
       let F : Flat = flat_memory m born notes in
       let page = page_value m.world notes in
       let s = space-is m p parts born notes is in
@@ -527,8 +527,7 @@ module _ (m : Memory) (p page number : ℕ) (parts : List (Part Segment)) (x : P
       zero-pages-of m fits born notes z n was ∙ ap (λ (ps : List Page). Some ps) (sym (zero-pages-same (page_value m.world notes) maps now n (zero-still z n was)))) in
       let back : with_space F p (cells_of F p) ≡ F = ap (λ (t : finite.FinMap nat_cmp Space). record F { spaces = t }) (put_back F p (ap is_some s)) in
       let all : without_unnamed F ≡ F = ap (λ (t : finite.FinMap nat_cmp (List Page)). record F { zeros = t }) (sym (zeros-are m born (contents_of m.world notes) fits.segments F.zeros (λ z n there. zero-pages-of m fits born notes z n there))) in
-      let same = e ∙ ap without_unnamed back ∙ all in
-      (same, subst IsFlat (sym same) whole)
+      e ∙ ap without_unnamed back ∙ all
     where
       cells : (page : PageName → Page) (k : ℕ) (o : Option Spot) → piece_at parts k ≡ o → option_map (cell_of (place_contents page now)) (piece_at new k) ≡ option_map (cell_of (place_contents page maps)) (piece_at parts k)
       cells page k None e = ap (option_map (cell_of (place_contents page now))) (none-here k e) ∙ ap (option_map (cell_of (place_contents page maps))) (sym e)
@@ -539,4 +538,4 @@ module _ (m : Memory) (p page number : ℕ) (parts : List (Part Segment)) (x : P
   pub part-cut : ChangesSegments p m (with_part_cut m p page number parts x) (λ F. F)
   part-cut = change-memory m now m.world.anon.reserved after p (λ F. F) fits (λ q ne. get-insert_apart m.spaces p new q ne) counts segments
       (λ place t there l. let v = turn-spot t.space t.page l.spot l.here in (v.0, v.1, v.2.shows))
-      flat
+      flat-is (λ born notes whole. (flat-is born notes, subst IsFlat (sym (flat-is born notes)) whole))

@@ -35,6 +35,7 @@ use Rattle.vm_world.specs.StateFits.{StateFits, CallerFits}
 use Rattle.vm_world.specs.StateSteps.{after_step, PendsTails, ComesBack}
 use Rattle.vm_world.specs.WorldSteps.{returns, WorldStep}
 use Rattle.vm_world.proofs.Entries.{entry-step, entry-faults, entry-calls, entry-rooms, entry-births, entry-part, not-left}
+use Rattle.vm_world.proofs.Shapes.{follows-entry}
 use Rattle.vm_world.proofs.Callers.{caller-longer}
 use Rattle.vm_world.proofs.FlatWhole.{some-inj}
 use Rattle.vm_world.proofs.NextParts.{follows-part}
@@ -165,6 +166,8 @@ rule-fails s new cut pending seat p call sent f calls syncs step tails for_call 
       fixed = ap (λ (n : ℕ). record (fixed_of (after_step s new pending)) { seats = n }) count ∙ event.fixed;
       sizes = event.sizes;
       grown = (io_entry p call f.number f.before f.disk.faults pending ∷ [], refl, All-cons (λ (x : Entry). seat_of x.process ≡ seat) (io_entry p call f.number f.before f.disk.faults pending) [] own (All-nil (λ (x : Entry). seat_of x.process ≡ seat)));
+      follows = λ opening was. follows-entry opening (after_step s new pending) (with_entry_made (after_step s new pending) (io_entry p call f.number f.before f.disk.faults pending) calls syncs) (io_entry p call f.number f.before f.disk.faults pending) refl
+          (λ notes. refl) (λ own. absurd (let z : true ≡ false = own in cc)) (event.follows opening was);
     }
 
 pub failure_rule : FailureRule

@@ -27,6 +27,7 @@ use Rattle.flat_model.specs.Access.{with_change_at}
 use Rattle.flat_model.specs.Flat.{File, Flat, IsFile, IsFlat}
 use Rattle.flat_model.specs.Parts.{existing_file, writable_file, growth_in, room_for, extents_beside, with_extents_of, with_file_at, with_part, file_of_length, write_part, truncate, read_part, read_line, file_bytes}
 use Rattle.flat_model.specs.Refusals.{◌>>=◌, ◌>>◌, check, Effect, or_refused, done_effect}
+use Rattle.flat_model.specs.Shapes.{without_bytes}
 use Rattle.flat_model.specs.Step.{IsDue, after_act, effect}
 use Rattle.flat_model.specs.Words.{Page, page, page_size, pages_in, IsPage}
 use Rattle.flat_model.proofs.Lines.{lines_in_pages_law}
@@ -132,42 +133,51 @@ module _ (m : Memory) (fits : MemoryFits m) (born : set.FinSet nat_cmp) (notes :
       by_there true b_is e = ap (λ (x : Option File). room_from x (λ file. growth_in G f file (pages_in end))) (file-at m.world notes f (ltb-true f (length m.world.files.files) b_is)) ∙ by_mode (vnode_at m.world.files f).info.writable refl e
 
 -- NOTHING CHANGES.
-still : (p cleared : ℕ) (m : Memory) (e : Entry) → MemoryFits m
+still : (p cleared : ℕ) (m : Memory) (e : Entry) → MemoryFits m → ((born : set.FinSet nat_cmp) (notes : Notes) → flat_memory m born notes ≡ after_act (flat_memory m born notes) e)
     → ((born : set.FinSet nat_cmp) (notes : Notes) → NotesFit m.world notes → AllTell m.world notes → IsFlat (flat_memory m born notes) → IsDue (flat_memory m born notes) e × (flat_memory m born notes ≡ after_act (flat_memory m born notes) e)) → ActsOnMemory m m e
-still p cleared m e fits acts = record {
+still p cleared m e fits same acts = record {
   machine = record { core = refl; frames = refl; slots = refl; disks = refl; modes = refl; bays = refl };
   others = λ q ne. refl;
   memory = fits;
   notes = λ notes nf. nf;
   tells = λ notes nf. ((λ tell. tell), (λ tell. tell));
   flat = acts;
+  shaped = λ born notes. ap without_bytes (same born notes);
 }
 
 some-errno : (o : Option Errno) (e : Errno) (r : Option Errno → Result File Errno) → o ≡ Some e → r o ≡ r (Some e)
 some-errno o e r is = ap r is
 
 refused : (p cleared : ℕ) (c : Call) (e : Errno) (m : Memory) → MemoryFits m → file_refusal m.world.files c ≡ Some e → ActsOnMemory m m (done_entry p c (reply.Refused e) cleared)
-refused p cleared (call.Read f offset len) e m fits is = still p cleared m (done_entry p (call.Read f offset len) (reply.Refused e) cleared) fits (λ born notes nf tell flat.
-    let G = flat_memory m born notes in
-    let none : (slice_get G.files f ≡ None) × (e ≡ errno.NoObject) = by_there notes (nat_lt f (length m.world.files.files)) refl is in
-    let same : read_part G f offset len ≡ record { reply = reply.Refused e; after = G } =
-    ap (λ (o : Option File). or_refused G (λ (file : File). record { reply = reply.Bytes (read_line file offset len); after = G }) (ok_or o errno.NoObject)) none.0 ∙ ap (λ (x : Errno). record { reply = reply.Refused x; after = G }) (sym none.1) in
-    (ap (λ (x : Effect). x.reply) same, sym (ap (λ (x : Effect). x.after) same)))
+refused p cleared (call.Read f offset len) e m fits is = still p cleared m (done_entry p (call.Read f offset len) (reply.Refused e) cleared) fits
+    (λ born notes. sym (ap (λ (x : Effect). x.after) (same born notes))) (λ born notes nf tell flat. (ap (λ (x : Effect). x.reply) (same born notes), sym (ap (λ (x : Effect). x.after) (same born notes))))
   where
     by_there : (notes : Notes) (b : Bool) → nat_lt f (length m.world.files.files) ≡ b → cond b None (Some errno.NoObject) ≡ Some e
         → (slice_get (files_with_pages (file_contents (page_value m.world notes)) 0 (map (λ (v : VnodeSeen). v.info) m.world.files.files)) f ≡ None) × (e ≡ errno.NoObject)
     by_there notes true b_is h = absurd (let z : ◌≡◌ {A = Option Errno} None (Some e) = h in cc)
     by_there notes false b_is h = (no-file-at m.world notes f (ltb-false f (length m.world.files.files) b_is), let z : ◌≡◌ {A = Option Errno} (Some errno.NoObject) (Some e) = h in cc)
-refused p cleared (call.Write f offset line rest) e m fits is = still p cleared m (done_entry p (call.Write f offset line rest) (reply.Refused e) cleared) fits (λ born notes nf tell flat.
-    let G = flat_memory m born notes in
-    let room = room-by m fits born notes f (offset + length line) (Some e) is [] (λ none. absurd (let z : ◌≡◌ {A = Option Errno} (Some e) None = none in cc)) in
-    let same : write_part G f offset line ≡ record { reply = reply.Refused e; after = G } = ap (λ (r : Result File Errno). or_refused G (λ (file : File). done_effect (with_file_at G f (with_part offset line file))) r) room in
-    (ap (λ (x : Effect). x.reply) same, sym (ap (λ (x : Effect). x.after) same)))
-refused p cleared (call.Truncate f len) e m fits is = still p cleared m (done_entry p (call.Truncate f len) (reply.Refused e) cleared) fits (λ born notes nf tell flat.
-    let G = flat_memory m born notes in
-    let room = room-by m fits born notes f len (Some e) is [] (λ none. absurd (let z : ◌≡◌ {A = Option Errno} (Some e) None = none in cc)) in
-    let same : truncate G f len ≡ record { reply = reply.Refused e; after = G } = ap (λ (r : Result File Errno). or_refused G (λ (file : File). done_effect (with_file_at G f (file_of_length len file))) r) room in
-    (ap (λ (x : Effect). x.reply) same, sym (ap (λ (x : Effect). x.after) same)))
+
+    same : (born : set.FinSet nat_cmp) (notes : Notes) → read_part (flat_memory m born notes) f offset len ≡ record { reply = reply.Refused e; after = flat_memory m born notes }
+    same born notes =
+        let G = flat_memory m born notes in
+        let none : (slice_get G.files f ≡ None) × (e ≡ errno.NoObject) = by_there notes (nat_lt f (length m.world.files.files)) refl is in
+        ap (λ (o : Option File). or_refused G (λ (file : File). record { reply = reply.Bytes (read_line file offset len); after = G }) (ok_or o errno.NoObject)) none.0 ∙ ap (λ (x : Errno). record { reply = reply.Refused x; after = G }) (sym none.1)
+refused p cleared (call.Write f offset line rest) e m fits is = still p cleared m (done_entry p (call.Write f offset line rest) (reply.Refused e) cleared) fits
+    (λ born notes. sym (ap (λ (x : Effect). x.after) (same born notes))) (λ born notes nf tell flat. (ap (λ (x : Effect). x.reply) (same born notes), sym (ap (λ (x : Effect). x.after) (same born notes))))
+  where
+    same : (born : set.FinSet nat_cmp) (notes : Notes) → write_part (flat_memory m born notes) f offset line ≡ record { reply = reply.Refused e; after = flat_memory m born notes }
+    same born notes =
+        let G = flat_memory m born notes in
+        let room = room-by m fits born notes f (offset + length line) (Some e) is [] (λ none. absurd (let z : ◌≡◌ {A = Option Errno} (Some e) None = none in cc)) in
+        ap (λ (r : Result File Errno). or_refused G (λ (file : File). done_effect (with_file_at G f (with_part offset line file))) r) room
+refused p cleared (call.Truncate f len) e m fits is = still p cleared m (done_entry p (call.Truncate f len) (reply.Refused e) cleared) fits
+    (λ born notes. sym (ap (λ (x : Effect). x.after) (same born notes))) (λ born notes nf tell flat. (ap (λ (x : Effect). x.reply) (same born notes), sym (ap (λ (x : Effect). x.after) (same born notes))))
+  where
+    same : (born : set.FinSet nat_cmp) (notes : Notes) → truncate (flat_memory m born notes) f len ≡ record { reply = reply.Refused e; after = flat_memory m born notes }
+    same born notes =
+        let G = flat_memory m born notes in
+        let room = room-by m fits born notes f len (Some e) is [] (λ none. absurd (let z : ◌≡◌ {A = Option Errno} (Some e) None = none in cc)) in
+        ap (λ (r : Result File Errno). or_refused G (λ (file : File). done_effect (with_file_at G f (file_of_length len file))) r) room
 refused p cleared (call.Load a n) e m fits is = absurd (let z : ◌≡◌ {A = Option Errno} None (Some e) = is in cc)
 refused p cleared (call.Store a n v) e m fits is = absurd (let z : ◌≡◌ {A = Option Errno} None (Some e) = is in cc)
 refused p cleared (call.Map a b c d x y) e m fits is = absurd (let z : ◌≡◌ {A = Option Errno} None (Some e) = is in cc)
@@ -199,17 +209,19 @@ grown-acts : (p f end cleared : ℕ) (c : Call) (extents : List Extent) (old new
 grown-acts p f end cleared c extents old new h fits served grown changes does =
     let lt = there-by f (length old.world.files.files) (cond (vnode_at old.world.files f).info.writable (cond (is_some (growth_of old.world.files f (pages_in end))) None (Some errno.TooBig)) (Some errno.ReadOnly)) served in
     let c' = file_rule.flat p f old new (λ file. h (with_extents_of extents file)) fits lt changes in
+    let same : (born : set.FinSet nat_cmp) (notes : Notes) → effect (flat_memory old born notes) p c ≡ done_effect (with_file_at (flat_memory old born notes) f (h (with_extents_of extents (file_seen old.world notes f)))) = λ born notes.
+    let G = flat_memory old born notes in
+    does G ∙ ap (λ (r : Result File Errno). or_refused G (λ (file : File). done_effect (with_file_at G f (h file))) r) (room-by old fits born notes f end None served extents (λ none. grown)) in
+    let turned : (born : set.FinSet nat_cmp) (notes : Notes) → with_file_changed (flat_memory old born notes) f (λ file. h (with_extents_of extents file)) ≡ (effect (flat_memory old born notes) p c).after = λ born notes.
+    changed-is old born notes f (λ file. h (with_extents_of extents file)) lt ∙ sym (ap (λ (x : Effect). x.after) (same born notes)) in
     record {
       machine = c'.machine;
       others = c'.others;
       memory = c'.memory;
       notes = c'.notes;
       tells = c'.tells;
-      flat = λ born notes nf tell flat.
-          let G = flat_memory old born notes in
-          let room = room-by old fits born notes f end None served extents (λ none. grown) in
-          let same : effect G p c ≡ done_effect (with_file_at G f (h (with_extents_of extents (file_seen old.world notes f)))) = does G ∙ ap (λ (r : Result File Errno). or_refused G (λ (file : File). done_effect (with_file_at G f (h file))) r) room in
-          (ap (λ (x : Effect). x.reply) same, (c'.flat born notes nf tell flat).0 ∙ changed-is old born notes f (λ file. h (with_extents_of extents file)) lt ∙ sym (ap (λ (x : Effect). x.after) same));
+      flat = λ born notes nf tell flat. (ap (λ (x : Effect). x.reply) (same born notes), (c'.flat born notes nf tell flat).0 ∙ turned born notes);
+      shaped = λ born notes. c'.shaped born notes ∙ ap without_bytes (turned born notes);
     }
 
 -- A PART OF A READ.
@@ -229,10 +241,18 @@ read-is file offset len page_at whole at = by_end (split offset file.len)
         let past : drop offset (file_bytes file) ≡ [] = drop_of_length-le (file_bytes file) (let n = length-take file.len (concat file.pages) in omega (arith, n, le)) in
         ap (λ (bytes : List ℕ). take (min len (line_rest offset)) bytes) past ∙ take-nil (min len (line_rest offset)) ∙ sym (some-take (read_count file.len offset len) (drop (offset % page_size) (page_at (page offset))) none)
 
+-- it changes nothing, whatever it reads
+read-still : (G : Flat) (f offset len : ℕ) → G ≡ (read_part G f offset len).after
+read-still G f offset len = by_file (slice_get G.files f)
+  where
+    by_file : (o : Option File) → G ≡ (or_refused G (λ (file : File). record { reply = reply.Bytes (read_line file offset len); after = G }) (ok_or o errno.NoObject)).after
+    by_file None = refl
+    by_file (Some file) = refl
+
 reads : (p f offset len cleared : ℕ) (line : List ℕ) (m : Memory) → MemoryFits m → file_refusal m.world.files (call.Read f offset len) ≡ None → ReadsFileLine m.world f offset len line → ActsOnMemory m m (done_entry p (call.Read f offset len) (reply.Bytes line) cleared)
 reads p f offset len cleared line m fits served is =
     let lt = there-by f (length m.world.files.files) None served in
-    still p cleared m (done_entry p (call.Read f offset len) (reply.Bytes line) cleared) fits (λ born notes nf tell flat.
+    still p cleared m (done_entry p (call.Read f offset len) (reply.Bytes line) cleared) fits (λ born notes. read-still (flat_memory m born notes) f offset len) (λ born notes nf tell flat.
     let G = flat_memory m born notes in
     let file = file_seen m.world notes f in
     let n = pages_in (vnode_at m.world.files f).info.length in

@@ -437,22 +437,19 @@ module _ (m : Memory) (p : ℕ) (parts : List (Part Segment)) (x : Part Segment)
           (all-both (λ (a : Part Segment). KeepsMaps maps put a.piece) (SegmentFits files maps) ps (keeps q ps there) (fit-after q ps there))
 
   -- FLAT MEMORY has none of its cells
-  flat : (born : set.FinSet nat_cmp) (notes : Notes) → IsFlat (flat_memory m born notes) → Becomes (λ F. without_pages F p x.first x.pages) (flat_memory m born notes) (flat_memory (with_part_gone m p parts x) born notes)
-  flat born notes whole =
+  flat-is : (born : set.FinSet nat_cmp) (notes : Notes) → flat_memory (with_part_gone m p parts x) born notes ≡ without_pages (flat_memory m born notes) p x.first x.pages
+  flat-is born notes =
       let F : Flat = flat_memory m born notes in
       let page = page_value m.world notes in
       let S : Space = without_range (cells_of F p) x.first x.pages in
       let cells : (q : ℕ) → option_map (cell_of (place_contents page put)) (piece_at new q) ≡ finite.get S q = λ q.
       kept-cells page q (piece_at new q) refl ∙ ap (option_map (cell_of (place_contents page maps))) (gone q) ∙ turn (cell_of (place_contents page maps)) (has x q) (piece_at parts q)
       ∙ ap (λ (o : Option Cell). cond (has x q) None o) (sym (cell-is m p parts born notes q is)) ∙ sym (get-without_range (cells_of F p) x.first x.pages q) in
-      let e = swept-flat m put left p new born notes F.zeros S segments
+      swept-flat m put left p new born notes F.zeros S segments
       (spaces-change m put left p new S born notes fits.segments.ordered (λ q ps ne there. keeps q ps (apart q ps ne there)) cells)
       (λ z n there. get-map_with (zero_pages (contents_of m.world notes).place (λ number. length (places_of maps number))) old_zeros z
       ∙ ap (option_map (zero_pages (contents_of m.world notes).place (λ number. length (places_of maps number)))) (within z n (shown-by after z n ordered-after there))
-      ∙ ap (λ (ps : List Page). Some ps) (sym (zero-pages-same page maps put n (kept-length z n there)))) in
-      let s = space-is m p parts born notes is in
-      let stand = stand-without (cells_of F p) x.first x.pages (subst (λ (t : Space). Standing t) (sym (cells-are m p parts born notes is)) (cells-stand F p _ whole s)) in
-      (e, subst IsFlat (sym e) (flat-unnamed (with_space F p S) (flat-with_space F p S whole (ap is_some s) stand)))
+      ∙ ap (λ (ps : List Page). Some ps) (sym (zero-pages-same page maps put n (kept-length z n there))))
     where
       turn : (f : Spot → Cell) (b : Bool) (o : Option Spot) → option_map f (cond b None o) ≡ cond b None (option_map f o)
       turn f true o = refl
@@ -461,6 +458,15 @@ module _ (m : Memory) (p : ℕ) (parts : List (Part Segment)) (x : Part Segment)
       kept-cells : (page : PageName → Page) (q : ℕ) (o : Option Spot) → piece_at new q ≡ o → option_map (cell_of (place_contents page put)) o ≡ option_map (cell_of (place_contents page maps)) o
       kept-cells page q None e = refl
       kept-cells page q (Some y) e = ap (λ (c : Cell). Some c) (kept-cell page maps put y (spot-keeps p q y (ap (option_and_then (λ (ps : List (Part Segment)). piece_at ps q)) here ∙ e)))
+
+  flat : (born : set.FinSet nat_cmp) (notes : Notes) → IsFlat (flat_memory m born notes) → Becomes (λ F. without_pages F p x.first x.pages) (flat_memory m born notes) (flat_memory (with_part_gone m p parts x) born notes)
+  flat born notes whole =
+      let F : Flat = flat_memory m born notes in
+      let S : Space = without_range (cells_of F p) x.first x.pages in
+      let e = flat-is born notes in
+      let s = space-is m p parts born notes is in
+      let stand = stand-without (cells_of F p) x.first x.pages (subst (λ (t : Space). Standing t) (sym (cells-are m p parts born notes is)) (cells-stand F p _ whole s)) in
+      (e, subst IsFlat (sym e) (flat-unnamed (with_space F p S) (flat-with_space F p S whole (ap is_some s) stand)))
 
   pub part-gone : ChangesSegments p m (with_part_gone m p parts x) (λ F. without_pages F p x.first x.pages)
   part-gone = change-memory m put left after p (λ F. without_pages F p x.first x.pages) fits (λ q ne. get-insert_apart m.spaces p new q ne) counts segments
@@ -471,4 +477,4 @@ module _ (m : Memory) (p : ℕ) (parts : List (Part Segment)) (x : Part Segment)
       ] in
       let y = spot-after t.space t.page l.spot l.here not in
       (l.spot, y, shows-kept maps put l.spot (spot-keeps t.space t.page l.spot y)))
-      flat
+      flat-is flat

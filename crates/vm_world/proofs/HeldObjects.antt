@@ -19,13 +19,14 @@ use Rattle.hat_layer.specs.declared.translation.Translation.{Translation}
 use Rattle.hat_layer.proofs.HatLemmas.{at-none}
 use Rattle.page_store.specs.Notes.{Notes}
 use Rattle.flat_model.specs.Access.{with_space}
-use Rattle.flat_model.specs.Flat.{Flat, IsFlat, space_of}
+use Rattle.flat_model.specs.Flat.{Cell, Flat, IsFlat, space_of}
 use Rattle.flat_model.specs.Mapping.{cells_of, without_pages}
 use Rattle.flat_model.specs.Processes.{without_process}
+use Rattle.flat_model.specs.Shapes.{RespectsShape, SameShape, without_bytes}
 use Rattle.flat_model.specs.Space.{without_range, with_cells}
 use Rattle.flat_model.proofs.Entries.{find_rest}
 use Rattle.flat_model.proofs.Ranges.{get-insert_here, get-insert_apart, get-remove_here, get-remove_apart}
-use Rattle.vm_world.specs.CallSteps.{KeepsMachine, ChangesMemory}
+use Rattle.vm_world.specs.CallSteps.{KeepsMachine}
 use Rattle.vm_world.specs.CountsFit.{ObjectFits, is_number, times_had, slots_for_part}
 use Rattle.vm_world.specs.FlatMemory.{Memory, flat_memory, space_with, zero_maps}
 use Rattle.vm_world.specs.MapSteps.{maps_made, maps_held, maps_released, places_released}
@@ -49,6 +50,7 @@ use Rattle.vm_world.proofs.MapChanges.{held-holders, held-released, made-else}
 use Rattle.vm_world.proofs.Maps.{get-map_with, insert-twice}
 use Rattle.vm_world.proofs.PartSums.{all_parts, sum-segments, part-le}
 use Rattle.vm_world.proofs.SegmentSteps.{segment_rule}
+use Rattle.vm_world.proofs.Shapes.{cells-respects, pages-respects, process-respects}
 use Rattle.vm_world.proofs.ShownZeros.{fits-shown, zero_map-of}
 use Rattle.vm_world.proofs.Spots.{both-right}
 
@@ -79,8 +81,8 @@ record Moves (u v : Memory) : Type 0 where
   notes : (notes : Notes) → NotesFit u.world notes → NotesFit v.world notes
   tells : (notes : Notes) → NotesFit u.world notes → AllTell u.world notes ↔ AllTell v.world notes
 
-moves-of : (p : ℕ) (u v : Memory) (means : Flat → Flat → Type 0) → ChangesMemory p u v means → Moves u v
-moves-of p u v means c = record { machine = c.machine; notes = c.notes; tells = c.tells }
+moves-of : (p : ℕ) (u v : Memory) (f : Flat → Flat) → ChangesSegments p u v f → Moves u v
+moves-of p u v f c = record { machine = c.machine; notes = c.notes; tells = c.tells }
 
 moves-then : (u v w : Memory) → Moves u v → Moves v w → Moves u w
 moves-then u v w a b = record {
@@ -287,11 +289,11 @@ module _ (m : Memory) (p g z number : ℕ) (w : World) (left : List (Part Segmen
   moves =
       let b : Memory = before m g z number fits none there in
       let h : Memory = with_holder m g z number in
-      let a : Moves b h = moves-of g b h (Becomes (λ F. with_new_cells F g 1 1 (segment_cell (holding_piece z number)))) (holder-comes m g z number fits none there) in
-      let c : Moves h mid = moves-of p h mid (Becomes (λ F. without_pages F p x.first x.pages)) cleared in
-      let d : Moves mid next = moves-of p mid next (Becomes (λ F. with_new_cells F p x.first x.pages (segment_cell x.piece))) comes in
-      let e : Moves next alone = moves-of g next alone (Becomes (λ F. without_pages F g 1 1)) goes in
-      let f : Moves alone end = moves-of g alone end (Becomes (λ F. without_process F g)) ends in
+      let a : Moves b h = moves-of g b h (λ F. with_new_cells F g 1 1 (segment_cell (holding_piece z number))) (holder-comes m g z number fits none there) in
+      let c : Moves h mid = moves-of p h mid (λ F. without_pages F p x.first x.pages) cleared in
+      let d : Moves mid next = moves-of p mid next (λ F. with_new_cells F p x.first x.pages (segment_cell x.piece)) comes in
+      let e : Moves next alone = moves-of g next alone (λ F. without_pages F g 1 1) goes in
+      let f : Moves alone end = moves-of g alone end (λ F. without_process F g) ends in
       let all : Moves b end = moves-then b h end a (moves-then h mid end c (moves-then mid next end d (moves-then next alone end e f))) in
       record { machine = all.machine; notes = all.notes; tells = all.tells }
 
@@ -302,7 +304,7 @@ module _ (m : Memory) (p g z number : ℕ) (w : World) (left : List (Part Segmen
       subst (KnowsZeros zeros) end-spaces (known-left alone g zeros goes.memory alone-here b)
 
   -- FLAT MEMORY
-  module _ (born : set.FinSet nat_cmp) (notes : Notes) (nf : NotesFit m.world notes) (tell : AllTell m.world notes) (whole : IsFlat (flat_memory m born notes)) where
+  module _ (born : set.FinSet nat_cmp) (notes : Notes) where
     abbrev born_then : set.FinSet nat_cmp
     born_then = set.insert born g
 
@@ -322,14 +324,46 @@ module _ (m : Memory) (p g z number : ℕ) (w : World) (left : List (Part Segmen
         by_space None some = some
         by_space (Some ps) some = refl
 
+    abbrev hold_cell : ℕ → Cell
+    hold_cell = segment_cell (holding_piece z number)
+
+    abbrev cell : ℕ → Cell
+    cell = segment_cell x.piece
+
+    -- what the steps leave, one after another
+    held-is : without_process (without_pages (with_new_cells (without_pages (with_new_cells (with_space (flat_memory m born_then notes) g finite.empty) g 1 1 hold_cell) p x.first x.pages) p x.first x.pages cell) g 1 1) g ≡ new_cells (flat_memory m born_then notes)
+    held-is = held-flat (flat_memory m born_then notes) p g z x.first x.pages hold_cell cell apart alive-was (space-was g ∙ ap (option_map (space_with (contents_of m.world notes).place)) none)
+        (λ i. refl)
+        (λ i y names. (let k : Some z ≡ Some y = sym (ap (λ (o : Object). elim o as (λ x. Option ℕ) [ object.Zero v ↦ Some v | object.File f ↦ None | object.NewZero ↦ None ]) object_is) ∙ names in let e : z ≡ y = cc in sym e))
+
+    -- whatever disks tell, it has this shape
+    shape-end : SameShape (flat_memory end born_then notes) (new_cells (flat_memory m born_then notes))
+    shape-end =
+        let b : Memory = before m g z number fits none there in
+        let h : Memory = with_holder m g z number in
+        let zero_step = process-flat m g fits none born_then notes in
+        let coming = holder-comes m g z number fits none there in
+        let leave : RespectsShape (λ G. without_process G g) = process-respects g in
+        let drop : RespectsShape (λ G. without_pages G g 1 1) = pages-respects g 1 1 in
+        let put : RespectsShape (λ G. with_new_cells G p x.first x.pages cell) = cells-respects p x.first x.pages cell in
+        let clear : RespectsShape (λ G. without_pages G p x.first x.pages) = pages-respects p x.first x.pages in
+        let one = coming.shaped born_then notes ∙ ap (λ (G : Flat). without_bytes (with_new_cells G g 1 1 hold_cell)) zero_step in
+        let two = cleared.shaped born_then notes ∙ clear (flat_memory h born_then notes) (with_new_cells (with_space (flat_memory m born_then notes) g finite.empty) g 1 1 hold_cell) one in
+        let three = comes.shaped born_then notes ∙ put (flat_memory mid born_then notes) (without_pages (with_new_cells (with_space (flat_memory m born_then notes) g finite.empty) g 1 1 hold_cell) p x.first x.pages) two in
+        let four = goes.shaped born_then notes ∙ drop (flat_memory next born_then notes) (with_new_cells (without_pages (with_new_cells (with_space (flat_memory m born_then notes) g finite.empty) g 1 1 hold_cell) p x.first x.pages) p x.first x.pages cell) three in
+        ends.shaped born_then notes
+        ∙ leave (flat_memory alone born_then notes) (without_pages (with_new_cells (without_pages (with_new_cells (with_space (flat_memory m born_then notes) g finite.empty) g 1 1 hold_cell) p x.first x.pages) p x.first x.pages cell) g 1 1) four
+        ∙ ap without_bytes held-is
+
+    shape-after : SameShape (flat_memory after born notes) (new_cells F)
+    shape-after = ap (λ (n : Memory). without_bytes (flat_memory n born notes)) (sym end-is) ∙ (λ i. record (shape-end i) { born = born })
+
     -- one step after another
-    flat-end : (flat_memory end born_then notes ≡ new_cells (flat_memory m born_then notes)) × IsFlat (flat_memory end born_then notes)
-    flat-end =
+    flat-end : NotesFit m.world notes → AllTell m.world notes → IsFlat F → (flat_memory end born_then notes ≡ new_cells (flat_memory m born_then notes)) × IsFlat (flat_memory end born_then notes)
+    flat-end nf tell whole =
         let b : Memory = before m g z number fits none there in
         let h : Memory = with_holder m g z number in
         let coming = holder-comes m g z number fits none there in
-        let hold_cell = segment_cell (holding_piece z number) in
-        let cell = segment_cell x.piece in
         let zero_step = process-flat m g fits none born_then notes in
         let one = coming.flat born_then notes nf tell (subst IsFlat (sym zero_step) (flat-with_process F g whole)) in
         let nf1 = coming.notes notes nf in
@@ -350,23 +384,22 @@ module _ (m : Memory) (p g z number : ℕ) (w : World) (left : List (Part Segmen
               ∙ ap (λ (G : Flat). without_process (without_pages (with_new_cells G p x.first x.pages cell) g 1 1) g) two.0
               ∙ ap (λ (G : Flat). without_process (without_pages (with_new_cells (without_pages G p x.first x.pages) p x.first x.pages cell) g 1 1) g) one.0
               ∙ ap (λ (G : Flat). without_process (without_pages (with_new_cells (without_pages (with_new_cells G g 1 1 hold_cell) p x.first x.pages) p x.first x.pages cell) g 1 1) g) zero_step
-              ∙ held-flat (flat_memory m born_then notes) p g z x.first x.pages hold_cell cell apart alive-was (space-was g ∙ ap (option_map (space_with (contents_of m.world notes).place)) none)
-              (λ i. refl)
-              (λ i y names. (let k : Some z ≡ Some y = sym (ap (λ (o : Object). elim o as (λ x. Option ℕ) [ object.Zero v ↦ Some v | object.File f ↦ None | object.NewZero ↦ None ]) object_is) ∙ names in let e : z ≡ y = cc in sym e)),
+              ∙ held-is,
           five.1,
         )
 
-    flat-after : Becomes new_cells F (flat_memory after born notes)
-    flat-after =
-        let e : flat_memory after born notes ≡ new_cells F = ap (λ (n : Memory). flat_memory n born notes) (sym end-is) ∙ ap (λ (G : Flat). record G { born = born }) flat-end.0 in
-        let whole_end = flat-end.1 in (
+    flat-after : NotesFit m.world notes → AllTell m.world notes → IsFlat F → Becomes new_cells F (flat_memory after born notes)
+    flat-after nf tell whole =
+        let last = flat-end nf tell whole in
+        let e : flat_memory after born notes ≡ new_cells F = ap (λ (n : Memory). flat_memory n born notes) (sym end-is) ∙ ap (λ (G : Flat). record G { born = born }) last.0 in
+        let whole_end = last.1 in (
           e,
           subst IsFlat (ap (λ (n : Memory). flat_memory n born notes) end-is) (record {
             pages = whole_end.pages;
             cells = whole_end.cells;
             files = whole_end.files;
             zeros = whole_end.zeros;
-            born = λ q is. born-was q (ap is_some (ap (λ (G : Flat). space_of G q) (sym flat-end.0)) ∙ is);
+            born = λ q is. born-was q (ap is_some (ap (λ (G : Flat). space_of G q) (sym last.0)) ∙ is);
           }),
         )
       where
@@ -386,4 +419,5 @@ module _ (m : Memory) (p g z number : ℕ) (w : World) (left : List (Part Segmen
     notes = subst (λ (n : Memory). (notes : Notes) → NotesFit m.world notes → NotesFit n.world notes) end-is moves.notes;
     tells = subst (λ (n : Memory). (notes : Notes) → NotesFit m.world notes → AllTell m.world notes ↔ AllTell n.world notes) end-is moves.tells;
     flat = λ born notes nf tell whole. flat-after born notes nf tell whole;
+    shaped = λ born notes. shape-after born notes;
   }

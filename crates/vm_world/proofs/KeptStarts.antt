@@ -9,7 +9,7 @@ use Rattle.page_store.proofs.page_hash.NameLaws.{find-some}
 use Rattle.page_store.specs.page_lock.Rows.{row_at}
 use Rattle.page_store.specs.Notes.{Note, Notes}
 use Rattle.page_store.specs.Seen.{StoreSeen, IsGone, own_frame, residence, residence_in, residence_of}
-use Rattle.page_store.specs.declared.residence.Residence.TheVariants.{Home, Moving}
+use Rattle.page_store.specs.declared.residence.Residence.TheVariants.{Home}
 use Rattle.page_store.proofs.QueryLemmas.{found-within}
 use Rattle.vm_world.specs.FlatMemory.{Memory}
 use Rattle.vm_world.specs.MemoryFits.{MemoryFits}
@@ -80,6 +80,7 @@ keeps-start s seat sent lt = record {
   };
   sizes = λ opening seats is fit. sizes-still s (with_start s seat) seat sent refl seats is;
   grown = no-entries s.history seat;
+  follows = λ opening was. record { shape = was.shape; refusals = was.refusals };
 }
 
 -- A CALL HAS BEGUN.

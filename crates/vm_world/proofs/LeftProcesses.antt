@@ -19,7 +19,7 @@ use Rattle.vm_world.specs.MemoryFits.{MemoryFits}
 use Rattle.vm_world.specs.Pages.{contents_of}
 use Rattle.vm_world.specs.SegmentSteps.{ChangesSegments}
 use Rattle.vm_world.specs.Segments.{Segment, Spot, Spaces, spot_at}
-use Rattle.vm_world.specs.SpaceSteps.{Becomes, without_space}
+use Rattle.vm_world.specs.SpaceSteps.{without_space}
 use Rattle.vm_world.proofs.ComingParts.{zero-pages-of}
 use Rattle.vm_world.proofs.Maps.{map-remove}
 use Rattle.vm_world.proofs.PartSums.{sum-remove, sum-segments}
@@ -80,18 +80,17 @@ module _ (m : Memory) (p : ℕ) (fits : MemoryFits m) (is : finite.get m.spaces 
         omega (arith, a, b, c);
   }
 
-  flat : (born : set.FinSet nat_cmp) (notes : Notes) → IsFlat (flat_memory m born notes) → Becomes (λ F. without_process F p) (flat_memory m born notes) (flat_memory (without_space m p) born notes)
-  flat born notes whole =
+  flat-is : (born : set.FinSet nat_cmp) (notes : Notes) → flat_memory (without_space m p) born notes ≡ without_process (flat_memory m born notes) p
+  flat-is born notes =
       let F : Flat = flat_memory m born notes in
       let n : Memory = without_space m p in
       let s : (flat_memory n born notes).spaces ≡ finite.remove F.spaces p = map-remove (space_with (contents_of m.world notes).place) m.spaces p in
       let z : (flat_memory n born notes).zeros ≡ (without_process F p).zeros =
       zeros-are n born (contents_of n.world notes) segments F.zeros (λ z k there. zero-pages-of m fits born notes z k (ap (λ (zs : finite.FinMap nat_cmp ℕ). finite.get zs z) (sym zeros-now) ∙ there))
       ∙ ap (λ (t : finite.FinMap nat_cmp Space). finite.retain_keys F.zeros (names_zero t)) s in
-      let e : flat_memory n born notes ≡ without_process F p = λ i. record { slots = F.slots; disks = F.disks; files = F.files; zeros = z i; spaces = s i; born = born } in
-      (e, subst IsFlat (sym e) (flat-without_process F p whole))
+      λ i. record { slots = F.slots; disks = F.disks; files = F.files; zeros = z i; spaces = s i; born = born }
 
   pub process-left : ChangesSegments p m (without_space m p) (λ F. without_process F p)
   process-left = change-memory m m.world.maps m.world.anon.reserved after p (λ F. without_process F p) fits (λ q ne. get-remove_apart m.spaces p q ne) fits.counts segments
       (λ place t there l. (l.spot, spot-after t.space t.page l.spot l.here, record { prot = refl; kind = refl; own = refl; name = refl }))
-      flat
+      flat-is (λ born notes whole. let e = flat-is born notes in (e, subst IsFlat (sym e) (flat-without_process (flat_memory m born notes) p whole)))

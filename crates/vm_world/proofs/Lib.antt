@@ -21,6 +21,7 @@ pub mod StateSteps
 pub mod NextParts
 pub mod Failures
 pub mod Callers
+pub mod Shapes
 pub mod Changes
 pub mod CallSteps
 pub mod Told

@@ -12,25 +12,11 @@ use Rattle.addr_space.specs.Pages.{pages_of_parts}
 use Rattle.addr_space.proofs.PageLaws.{get-pages_of_parts}
 use Rattle.flat_model.specs.Flat.{Space, cell_in}
 use Rattle.flat_model.proofs.Entries.{Above, Above-entries, find_rest, find_below, first_found}
+pub use Rattle.flat_model.proofs.Values.{get-map_with, len-map_with, map-insert, map-remove, map_with-same, on_option}
 use Rattle.flat_model.proofs.Ranges.{get-insert_here, get-insert_apart, get-remove_here, get-remove_apart, option_map-cond as by_key}
 use Rattle.flat_model.specs.Words.{Page}
 use Rattle.vm_world.specs.Segments.{Segment, Spaces, spot_at}
 use Rattle.vm_world.specs.FlatMemory.{map_with, cell_of, space_with}
-
-find-changed : {X Y : Type 0} (f : X → Y) (es : List (ℕ × X)) (q : ℕ) → finite.find nat_cmp q (map (λ e. (e.0, f e.1)) es) ≡ option_map f (finite.find nat_cmp q es)
-find-changed f [] q = refl
-find-changed f (e ∷ es) q = ap (cond (is_eq (nat_cmp q e.0)) (Some (f e.1))) (find-changed f es q) ∙ by_key f (is_eq (nat_cmp q e.0)) e.1 (finite.find nat_cmp q es)
-
-pub get-map_with : {X Y : Type 0} (f : X → Y) (m : finite.FinMap nat_cmp X) (q : ℕ) → finite.get (map_with f m) q ≡ option_map f (finite.get m q)
-get-map_with f m q = finite.get-from_entries nat_cmp_total (map (λ e. (e.0, f e.1)) (finite.entries m)) q ∙ find-changed f (finite.entries m) q ∙ ap (option_map f) (sym (finite.get-entries m q))
-
-pub on_option : {X Y : Type 0} (f g : X → Y) (o : Option X) → ((x : X) → o ≡ Some x → g x ≡ f x) → option_map g o ≡ option_map f o
-on_option f g None same = refl
-on_option f g (Some x) same = ap (λ y. Some y) (same x refl)
-
--- functions that agree on the values there are
-pub map_with-same : {X Y : Type 0} (f g : X → Y) (m : finite.FinMap nat_cmp X) → ((q : ℕ) (x : X) → finite.get m q ≡ Some x → g x ≡ f x) → map_with g m ≡ map_with f m
-map_with-same f g m same = finite.same_map nat_cmp_total finite.nat_cmp-IsAntisymmetric _ _ (λ q. get-map_with g m q ∙ on_option f g (finite.get m q) (same q) ∙ sym (get-map_with f m q))
 
 -- functions that agree on all values but one
 pub map_with-but_one : {X Y : Type 0} (f g : X → Y) (m : finite.FinMap nat_cmp X) (k : ℕ) (x : X) → finite.get m k ≡ Some x → ((q : ℕ) (y : X) → finite.get m q ≡ Some y → q ≢ k → g y ≡ f y)
@@ -51,20 +37,6 @@ cell-at held spaces p q = ap (option_and_then (λ (space : Space). finite.get sp
     by_space : (o : Option (List (Part Segment))) → option_and_then (λ (space : Space). finite.get space q) (option_map (space_with held) o) ≡ option_map (cell_of held) (option_and_then (λ parts. piece_at parts q) o)
     by_space None = refl
     by_space (Some parts) = get-space_with held parts q
-
--- a value is taken away
-pub map-remove : {X Y : Type 0} (f : X → Y) (m : finite.FinMap nat_cmp X) (k : ℕ) → map_with f (finite.remove m k) ≡ finite.remove (map_with f m) k
-map-remove f m k = finite.same_map nat_cmp_total finite.nat_cmp-IsAntisymmetric _ _ (λ q. get-map_with f (finite.remove m k) q ∙ elim (cases_eq q k) [
-  | inl e ↦ ap (λ (j : ℕ). option_map f (finite.get (finite.remove m k) j)) e ∙ ap (option_map f) (get-remove_here m k) ∙ sym (get-remove_here (map_with f m) k) ∙ ap (finite.get (finite.remove (map_with f m) k)) (sym e)
-  | inr ne ↦ ap (option_map f) (get-remove_apart m k q ne) ∙ sym (get-map_with f m q) ∙ sym (get-remove_apart (map_with f m) k q ne)
-])
-
--- and one is put
-pub map-insert : {X Y : Type 0} (f : X → Y) (m : finite.FinMap nat_cmp X) (k : ℕ) (v : X) → map_with f (finite.insert m k v) ≡ finite.insert (map_with f m) k (f v)
-map-insert f m k v = finite.same_map nat_cmp_total finite.nat_cmp-IsAntisymmetric _ _ (λ q. get-map_with f (finite.insert m k v) q ∙ elim (cases_eq q k) [
-  | inl e ↦ ap (λ (j : ℕ). option_map f (finite.get (finite.insert m k v) j)) e ∙ ap (option_map f) (get-insert_here m k v) ∙ sym (get-insert_here (map_with f m) k (f v)) ∙ ap (finite.get (finite.insert (map_with f m) k (f v))) (sym e)
-  | inr ne ↦ ap (option_map f) (get-insert_apart m k v q ne) ∙ sym (get-map_with f m q) ∙ sym (get-insert_apart (map_with f m) k (f v) q ne)
-])
 
 -- what is put under a key last is there
 pub insert-twice : {X : Type 0} (m : finite.FinMap nat_cmp X) (k : ℕ) (v w : X) → finite.insert (finite.insert m k v) k w ≡ finite.insert m k w
@@ -90,20 +62,6 @@ values-in {X} P a (e ∷ es) above each = All-cons P e.1 (map (λ (e : ℕ × X)
 pub all-values : {X : Type 0} (P : X → Type 0) (m : finite.FinMap nat_cmp X) → ((q : ℕ) (v : X) → finite.get m q ≡ Some v → P v) → All P (finite.values m)
 all-values P m each = values-in P 0 (finite.entries m) (Above-entries m) (λ q v found. each q v (finite.get-entries m q ∙ found))
 
--- as many keys as before
-len-above : {X : Type 0} (a : ℕ) (es : List (ℕ × X)) → Above a es → finite.len (finite.from_entries {R = nat_cmp} es) ≡ length es
-len-above {X} a [] above = finite.len-empty nat_cmp X
-len-above {X} a (e ∷ es) above =
-    let none : finite.get (finite.from_entries {R = nat_cmp} es) e.0 ≡ None = finite.get-from_entries nat_cmp_total es e.0 ∙ find_below e.0 (e.0 + 1) es (omega arith) above.1 in
-    let one = finite.len-insert nat_cmp_total (finite.from_entries es) e.0 e.1
-    ∙ ap (λ (b : Bool). cond b (finite.len (finite.from_entries {R = nat_cmp} es)) (finite.len (finite.from_entries {R = nat_cmp} es) + 1)) (ap is_some none) in
-    let more = len-above (e.0 + 1) es above.1 in
-    omega (arith, one, more)
-
 pub above-changed : {X Y : Type 0} (f : X → Y) (a : ℕ) (es : List (ℕ × X)) → Above a es → Above a (map (λ (e : ℕ × X). (e.0, f e.1)) es)
 above-changed f a [] above = tt
 above-changed f a (e ∷ es) above = (above.0, above-changed f (e.0 + 1) es above.1)
-
-pub len-map_with : {X Y : Type 0} (f : X → Y) (m : finite.FinMap nat_cmp X) → finite.len (map_with f m) ≡ finite.len m
-len-map_with {X} f m =
-    len-above 0 (map (λ (e : ℕ × X). (e.0, f e.1)) (finite.entries m)) (above-changed f 0 (finite.entries m) (Above-entries m)) ∙ length-map (finite.entries m) (λ (e : ℕ × X). (e.0, f e.1)) ∙ sym (finite.len-entries m)

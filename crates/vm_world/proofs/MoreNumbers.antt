@@ -79,4 +79,4 @@ module _ (m : Memory) (more : ℕ) (fits : MemoryFits m) where
       (λ place t there l.
       let s : IsSpotOf (SegmentFits files maps) t.page l.spot = spot-part (SegmentFits files maps) m.spaces t.space t.page l.spot fits.segments.ordered fits.segments.each l.here in
       (l.spot, l.here, shows-kept maps now l.spot (subst (KeepsMaps maps now) s.piece (keeps s.part s.fits))))
-      (λ born notes whole. (flat born notes, subst IsFlat (sym (flat born notes)) whole))
+      flat (λ born notes whole. (flat born notes, subst IsFlat (sym (flat born notes)) whole))

@@ -144,26 +144,20 @@ module _ (m : Memory) (p : ℕ) (parts : List (Part Segment)) (x : Part Segment)
       let s : IsSpotOf (λ (a : Part Segment). KeepsMaps maps now a.piece) k y = spot-part (λ (a : Part Segment). KeepsMaps maps now a.piece) m.spaces q k y fits.segments.ordered c.keeps there in
       subst (KeepsMaps maps now) s.piece s.fits
 
-  flat : (zeros : Flat → finite.FinMap nat_cmp (List Page)) → HasZeros m now Z zeros → ((F : Flat) → IsFlat F → IsFlat (record F { zeros = zeros F }))
-      → ((notes : Notes) (i : ℕ) → cell_of (place_contents (page_value m.world notes) now) (x.piece, i) ≡ segment_cell x.piece i) → ((i : ℕ) → IsCell (segment_cell x.piece i))
-      → (born : set.FinSet nat_cmp) (notes : Notes) → IsFlat (flat_memory m born notes)
-      → Becomes (λ F. with_new_cells (record F { zeros = zeros F }) p x.first x.pages (segment_cell x.piece)) (flat_memory m born notes) (flat_memory (with_segments m now r p new) born notes)
-  flat zeros have fine cell good born notes whole =
+  flat-is : (zeros : Flat → finite.FinMap nat_cmp (List Page)) → HasZeros m now Z zeros
+      → ((notes : Notes) (i : ℕ) → cell_of (place_contents (page_value m.world notes) now) (x.piece, i) ≡ segment_cell x.piece i) → (born : set.FinSet nat_cmp) (notes : Notes)
+      → flat_memory (with_segments m now r p new) born notes ≡ with_new_cells (record (flat_memory m born notes) { zeros = zeros (flat_memory m born notes) }) p x.first x.pages (segment_cell x.piece)
+  flat-is zeros have cell born notes =
       let F : Flat = flat_memory m born notes in
-      let G : Flat = record F { zeros = zeros F } in
       let page = page_value m.world notes in
       let S : Space = with_cells (cells_of F p) x.first x.pages (segment_cell x.piece) in
-      let s = space-is m p parts born notes is in
       let cells : (q : ℕ) → option_map (cell_of (place_contents page now)) (piece_at new q) ≡ finite.get S q = λ q.
       ap (option_map (cell_of (place_contents page now))) (come q)
       ∙ turn page q (has x q) (piece_at parts q) refl (cell notes (q - x.first))
       ∙ ap (λ (o : Option Cell). cond (has x q) (Some (segment_cell x.piece (q - x.first))) o) (sym (cell-is m p parts born notes q is)) ∙ sym (get-with_cells (cells_of F p) x.first x.pages (segment_cell x.piece) q) in
-      let e = swept-flat m now r p new born notes (zeros F) S segments
+      swept-flat m now r p new born notes (zeros F) S segments
       (spaces-change m now r p new S born notes fits.segments.ordered (λ q ps ne there. c.keeps q ps there) cells)
-      (λ z n there. have born notes z n (ap (λ (zs : finite.FinMap nat_cmp ℕ). finite.get zs z) (sym zeros-now) ∙ there)) in
-      let old : Standing (cells_of F p) = subst (λ (t : Space). Standing t) (sym (cells-are m p parts born notes is)) (cells-stand F p _ whole s) in
-      let stand : Standing S = λ q d there. by_range q d (cases_Bool (is_in_range x.first x.pages q)) (sym (get-with_cells (cells_of F p) x.first x.pages (segment_cell x.piece) q) ∙ there) (old q d) in
-      (e, subst IsFlat (sym e) (flat-unnamed (with_space G p S) (flat-with_space G p S (fine F whole) (ap is_some s) stand)))
+      (λ z n there. have born notes z n (ap (λ (zs : finite.FinMap nat_cmp ℕ). finite.get zs z) (sym zeros-now) ∙ there))
     where
       turn : (page : PageName → Page) (q : ℕ) (b : Bool) (o : Option Spot) → piece_at parts q ≡ o → cell_of (place_contents page now) (x.piece, q - x.first) ≡ segment_cell x.piece (q - x.first)
           → option_map (cell_of (place_contents page now)) (cond b (Some (x.piece, q - x.first)) o) ≡ cond b (Some (segment_cell x.piece (q - x.first))) (option_map (cell_of (place_contents page maps)) o)
@@ -171,6 +165,20 @@ module _ (m : Memory) (p : ℕ) (parts : List (Part Segment)) (x : Part Segment)
       turn page q false None e cell = refl
       turn page q false (Some y) e cell = ap (λ (d : Cell). Some d) (kept-cell page maps now y (spot-keeps p q y (ap (option_and_then (λ (ps : List (Part Segment)). piece_at ps q)) is ∙ e)))
 
+  flat : (zeros : Flat → finite.FinMap nat_cmp (List Page)) → HasZeros m now Z zeros → ((F : Flat) → IsFlat F → IsFlat (record F { zeros = zeros F }))
+      → ((notes : Notes) (i : ℕ) → cell_of (place_contents (page_value m.world notes) now) (x.piece, i) ≡ segment_cell x.piece i) → ((i : ℕ) → IsCell (segment_cell x.piece i))
+      → (born : set.FinSet nat_cmp) (notes : Notes) → IsFlat (flat_memory m born notes)
+      → Becomes (λ F. with_new_cells (record F { zeros = zeros F }) p x.first x.pages (segment_cell x.piece)) (flat_memory m born notes) (flat_memory (with_segments m now r p new) born notes)
+  flat zeros have fine cell good born notes whole =
+      let F : Flat = flat_memory m born notes in
+      let G : Flat = record F { zeros = zeros F } in
+      let S : Space = with_cells (cells_of F p) x.first x.pages (segment_cell x.piece) in
+      let s = space-is m p parts born notes is in
+      let e = flat-is zeros have cell born notes in
+      let old : Standing (cells_of F p) = subst (λ (t : Space). Standing t) (sym (cells-are m p parts born notes is)) (cells-stand F p _ whole s) in
+      let stand : Standing S = λ q d there. by_range q d (cases_Bool (is_in_range x.first x.pages q)) (sym (get-with_cells (cells_of F p) x.first x.pages (segment_cell x.piece) q) ∙ there) (old q d) in
+      (e, subst IsFlat (sym e) (flat-unnamed (with_space G p S) (flat-with_space G p S (fine F whole) (ap is_some s) stand)))
+    where
       by_range : {o : Option Cell} (q : ℕ) (d : Cell) → (is_in_range x.first x.pages q ≡ true) ⊎ (is_in_range x.first x.pages q ≡ false) → cond (is_in_range x.first x.pages q) (Some (segment_cell x.piece (q - x.first))) o ≡ Some d → (o ≡ Some d → IsUserPage q × IsCell d) → IsUserPage q × IsCell d
       by_range {o} q d (inl t) e old =
           let low = in_range-low x.first x.pages q t in
@@ -186,4 +194,4 @@ module _ (m : Memory) (p : ℕ) (parts : List (Part Segment)) (x : Part Segment)
       → ChangesSegments p m (with_segments m now r p new) (λ F. with_new_cells (record F { zeros = zeros F }) p x.first x.pages (segment_cell x.piece))
   part-comes zeros have fine cell good = change-memory m now r after p (λ F. with_new_cells (record F { zeros = zeros F }) p x.first x.pages (segment_cell x.piece)) fits (λ q ne. get-insert_apart m.spaces p new q ne) c.counts segments
       (λ place t there l. (l.spot, spot-after t.space t.page l.spot l.here, shows-kept maps now l.spot (spot-keeps t.space t.page l.spot l.here)))
-      (flat zeros have fine cell good)
+      (flat-is zeros have cell) (flat zeros have fine cell good)

@@ -17,6 +17,7 @@ use Rattle.hat_layer.specs.declared.translation.Translation.{Translation}
 use Rattle.page_store.specs.Notes.{Notes}
 use Rattle.page_store.specs.Seen.{StoreSeen}
 use Rattle.flat_model.specs.Flat.{Space, Flat, IsFlat}
+use Rattle.flat_model.specs.Shapes.{without_bytes}
 use Rattle.flat_model.proofs.Ranges.{same_space, get-insert_here, get-insert_apart}
 use Rattle.flat_model.proofs.Sums.{total}
 use Rattle.vm_world.specs.CountsFit.{CountsFit, SegmentFits, SegmentsFit, places_in, times_held, times_had, slots_for_part}
@@ -79,9 +80,10 @@ pub change-memory : (m : Memory) (put : List (Option Map)) (r : ℕ) (spaces : S
     → CountsFit (record m.world.anon { reserved = r }) put
     → SegmentsFit (length m.world.files.files) (record m.world.anon { reserved = r }) put spaces
     → ((place : ℕ) (t : Translation) → slice_index_or m.world.hat.places place None ≡ Some t → (l : TranslationFits m.world.store m.world.anon m.world.maps m.spaces t) → (y : Spot) × (spot_at spaces t.space t.page ≡ Some y) × ShowsAs m.world.maps put l.spot y)
+    → ((born : set.FinSet nat_cmp) (notes : Notes) → flat_memory (after_change m put r spaces) born notes ≡ f (flat_memory m born notes))
     → ((born : set.FinSet nat_cmp) (notes : Notes) → IsFlat (flat_memory m born notes) → Becomes f (flat_memory m born notes) (flat_memory (after_change m put r spaces) born notes))
     → ChangesSegments p m (after_change m put r spaces) f
-change-memory m put r spaces p f fits others counts segments moves flat = record {
+change-memory m put r spaces p f fits others counts segments moves same flat = record {
   machine = record { core = refl; frames = refl; slots = refl; disks = refl; modes = refl; bays = refl };
   others = others;
   memory = record {
@@ -98,6 +100,7 @@ change-memory m put r spaces p f fits others counts segments moves flat = record
   notes = λ notes nf. record { stored = nf.stored; clean = nf.clean; pushes = nf.pushes; gone = nf.gone; sizes = nf.sizes };
   tells = λ notes nf. ((λ tell. tell), (λ tell. tell));
   flat = λ born notes nf tell whole. flat born notes whole;
+  shaped = λ born notes. ap without_bytes (same born notes);
 }
 
 -- SEGMENTS FIT where the parts of one process are others: what is owed is sums over these, and which zero objects are shown.

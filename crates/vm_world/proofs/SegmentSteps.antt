@@ -19,6 +19,7 @@ use Rattle.vm_world.proofs.FrameRule.{frame_law}
 use Rattle.vm_world.proofs.GoneParts.{part-gone}
 use Rattle.vm_world.proofs.LeftProcesses.{process-left}
 use Rattle.vm_world.proofs.MoreNumbers.{more-numbers}
+use Rattle.vm_world.proofs.Shapes.{tables-shape}
 
 rule-remove : (m : Memory) (p first : ℕ) (parts : List (Part Segment)) (x : Part Segment) → MemoryFits m → finite.get m.spaces p ≡ Some parts → begins parts first ≡ Some x → MayLeave m p x
     → ChangesSegments p m (with_part_gone m p parts x) (λ F. without_pages F p x.first x.pages)
@@ -37,6 +38,7 @@ rule-keeps p old new spaces fits step = record {
       let F : Flat = flat_memory (record { world = old; spaces = spaces }) born notes in
       let e : flat_memory (record { world = new; spaces = spaces }) born notes ≡ F = frame_law.flat old new spaces stays (λ name. false) born notes fits step tt nf tell whole ∙ cleared_tails_law.none F in
       (e, subst IsFlat (sym e) whole);
+  shaped = λ born notes. tables-shape old new spaces born notes notes step.tables;
 }
 
 pub segment_rule : SegmentRule

@@ -13,7 +13,7 @@ use Rattle.vm_world.specs.EntryLaws.{LocksAfter, StartsAfter}
 use Rattle.vm_world.specs.Events.{IsEvent, CanTry, MayBear}
 use Rattle.vm_world.specs.Failures.{with_entry_made}
 use Rattle.vm_world.specs.FlatMemory.{Memory}
-use Rattle.vm_world.specs.Plans.{CanRunPlan, MayMeetFault}
+use Rattle.vm_world.specs.Plans.{CanRunPlan, MayMeetFault, refusal_in}
 use Rattle.vm_world.specs.Serving.{ServesDone, ServesNeed, ServesBusy}
 use Rattle.vm_world.specs.ServingLaws.{done_entry, MayAnswer, IsOfAnother, after_wait, after_need, ServingLaw}
 use Rattle.vm_world.specs.State.{KernelState, Caller, Seats, Sent, with_sent}
@@ -23,6 +23,7 @@ use Rattle.vm_world.specs.Wants.{MayHold, HoldsUp, seat_in}
 use Rattle.vm_world.specs.World.{World}
 use Rattle.vm_world.proofs.CallSteps.{rule-done}
 use Rattle.vm_world.proofs.FlatWhole.{some-inj}
+use Rattle.vm_world.proofs.Shapes.{refusal-kept}
 use Rattle.vm_world.proofs.StateSteps.{rule-calm, rule-plans, this-seat}
 use Rattle.vm_world.proofs.Told.{event-then, moving-sent, disk-sent}
 
@@ -50,6 +51,7 @@ serves-done s new seat p more call reply calls syncs try serves stays may locks 
       done = may.own;
       sync = may.sync;
       file = may.file;
+      refusal = refusal-kept s.memory.world serves.mid s.memory.spaces p call (refusal_in reply) serves.first.step.tables serves.refusal;
     }) locks starts count)
 
 -- A TRANSFER is needed first.

@@ -1,6 +1,6 @@
 -- A step of the world is an event.
 use Rattle.page_store.proofs.TransferLemmas.{home-within as home-below, out-within as out-below}
-use Rattle.std.proofs.Common.{◌≡◌, ◌≢◌, ℕ, zero, suc, ◌<◌, ◌≤◌, ◌==◌, ◌^◌, Bool, true, false, cond, List, [], ◌∷◌, ◌++◌, length, Option, Some, None, refl, sym, ap, ◌∙◌, inl, inr, subst, arith}
+use Rattle.std.proofs.Common.{◌≡◌, ◌≢◌, ℕ, ◌<◌, ◌≤◌, ◌==◌, ◌^◌, Bool, true, false, cond, List, [], ◌∷◌, ◌++◌, length, Option, Some, None, refl, sym, ap, ◌∙◌, inl, inr, subst, arith}
 use Rattle.std.specs.Prelude.{option_map, slice_set, All, IsSome, is_some}
 use Rattle.std.proofs.lemmas.Bool.{cases_eq}
 use Rattle.std.proofs.lemmas.Bool.Decides.{eqb_tells}
@@ -32,6 +32,7 @@ use Rattle.vm_world.specs.StateSteps.{after_step, PendsTails, ComesBack, StateRu
 use Rattle.vm_world.specs.WorldSteps.{Trip, stays, leaves, returns, HasTrip, notes_after, WorldStep, tails_lost}
 use Rattle.flat_model.proofs.WellFormed.{IsFlat-tails_cleared}
 use Rattle.vm_world.proofs.Entries.{entry-tails, length-cleared}
+use Rattle.vm_world.proofs.Shapes.{follows-kept}
 use Rattle.vm_world.proofs.FilePages.{length-files_with_pages}
 use Rattle.vm_world.proofs.FrameRule.{frame-flat}
 use Rattle.vm_world.proofs.FlatWhole.{some-inj}
@@ -142,6 +143,7 @@ rule-calm s new cut pending seat sent step tails = record {
   fixed = fixed-same s new stays cut pending step tails;
   sizes = λ opening seats is fit. sizes-still s (after_step s new pending) seat sent step.bays seats is;
   grown = no-entries s.history seat;
+  follows = λ opening was. follows-kept opening s new pending step.tables was;
 }
 
 -- A PLAN IS KEPT.
@@ -152,6 +154,7 @@ rule-plans s new cut pending kept step tails runs seated may = record {
   fixed = fixed-same s new stays cut pending step tails;
   sizes = λ opening seats is fit. sizes-still s (record (after_step s new pending) { plan = Some kept }) kept.seat None step.bays seats is;
   grown = no-entries s.history kept.seat;
+  follows = λ opening was. let f = follows-kept opening s new pending step.tables was in record { shape = f.shape; refusals = f.refusals };
 }
   where
     caller : (notes : Notes) (of : Caller) → kept.of ≡ Some of → CallerFits (flat_memory (record s.memory { world = new }) s.born notes) s.history s.entries kept.seat of
@@ -241,6 +244,7 @@ rule-begins s new cut pending seat sent kept step tails plan mine of_is = record
       ap (λ (n : Notes). seen_in (λ disk. disk.size) (bay_at new.store.bays number) n) (notes-with seats seat (Some sent))
       ∙ seen-leaves (λ disk. disk.size) s.memory.world.store.bays new.store.bays (notes_of seats) seat sent.note idle (noted opening seats fit) step.bays.0 step.bays.1 number;
   grown = no-entries s.history seat;
+  follows = λ opening was. follows-kept opening s new pending step.tables was;
 }
   where
     noted : (opening : Flat) (seats : Seats) → StateFits opening s seats → (k t : ℕ) → bay_at s.memory.world.store.bays k ≡ out t → IsSome (notes_of seats t)
@@ -321,6 +325,7 @@ rule-ends s new cut pending seat sent f step tails comes = record {
       ap (λ (n : Notes). seen_in (λ disk. disk.size) (bay_at new.store.bays number) n) (notes-with seats seat None)
       ∙ seen-returns (λ disk. disk.size) s.memory.world.store.bays new.store.bays (notes_of seats) seat sent.note step.bays.1.0 noted (λ k at. one-disk opening seats fit noted k at) step.bays.0 step.bays.1.1 size number;
   grown = no-entries s.history seat;
+  follows = λ opening was. follows-kept opening s new pending step.tables was;
 }
   where
     home-inj : (x y : DiskSeen) → home x ≡ home y → x ≡ y

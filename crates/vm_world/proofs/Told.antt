@@ -78,7 +78,7 @@ none-out (suc n) (suc k) = none-out n k
 
 -- WHAT EVENTS KEEP
 opens : (s : KernelState) → (F : Flat) × StateFits F s no_seats → IsSince s s no_seats
-opens s fits = record { starts = fits; fits = λ F fit. fit; fixed = refl; sizes = λ number. refl }
+opens s fits = record { starts = fits; fits = λ F fit. fit; fixed = refl; sizes = λ number. refl; follows = λ F was. was }
 
 since : (opening s t : KernelState) (seats : Seats) (seat : ℕ) (before after : Option Sent) → IsSince opening s seats → seats seat ≡ before → IsEvent seat s before t after → IsSince opening t (with_sent seats seat after)
 since opening s t seats seat before after was at event = record {
@@ -86,6 +86,7 @@ since opening s t seats seat before after was at event = record {
   fits = λ F fit. event.fits F seats at (was.fits F fit);
   fixed = event.fixed ∙ was.fixed;
   sizes = λ number. event.sizes was.starts.0 seats at (was.fits was.starts.0 was.starts.1) number ∙ was.sizes number;
+  follows = λ F has. event.follows F (was.follows F has);
 }
 
 -- NOTHING CHANGES.
@@ -95,6 +96,7 @@ rests seat s sent = record {
   fixed = refl;
   sizes = λ opening seats is fit. sizes-still s s seat sent refl seats is;
   grown = no-entries s.history seat;
+  follows = λ opening was. record { shape = was.shape; refusals = was.refusals };
 }
 
 -- a seat that has one thing outside and then another
@@ -118,6 +120,7 @@ event-then seat s t u before mid after a b = record {
     b.grown.1 ∙ ap (λ (H : List Entry). H ++ b.grown.0) a.grown.1 ∙ append_assoc s.history a.grown.0 b.grown.0,
     All-append (λ (e : Entry). seat_of e.process ≡ seat) a.grown.0 b.grown.0 a.grown.2 b.grown.2,
   );
+  follows = λ opening was. b.follows opening (a.follows opening was);
 }
 
 -- A PLAN IS FORGOTTEN.
@@ -140,6 +143,7 @@ forgets-plan seat s sent = record {
   fixed = refl;
   sizes = λ opening seats is fit. sizes-still s (record s { plan = None }) seat sent refl seats is;
   grown = no-entries s.history seat;
+  follows = λ opening was. record { shape = was.shape; refusals = was.refusals };
 }
 
 pub event_law : EventLaw

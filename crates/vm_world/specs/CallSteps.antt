@@ -11,6 +11,7 @@ use Rattle.flat_model.specs.vm_types.WellFormed.{IsWellFormed}
 use Rattle.page_store.specs.Notes.{Notes}
 use Rattle.flat_model.specs.Flat.{Flat, IsFlat}
 use Rattle.flat_model.specs.History.{IsStart, is_io}
+use Rattle.flat_model.specs.Shapes.{RespectsShape, SameShape}
 use Rattle.flat_model.specs.Step.{IsDue, after_act}
 use Rattle.vm_world.specs.EntryLaws.{LocksAfter, StartsAfter, MayUseFile}
 use Rattle.vm_world.specs.Events.{IsEvent, CanTry}
@@ -19,13 +20,14 @@ use Rattle.vm_world.specs.FlatMemory.{Memory, flat_memory}
 use Rattle.vm_world.specs.HistoryFits.{is_exit}
 use Rattle.vm_world.specs.MemoryFits.{MemoryFits}
 use Rattle.vm_world.specs.NotesFit.{NotesFit}
+use Rattle.vm_world.specs.Plans.{IsRefusal, refusal_in}
 use Rattle.vm_world.specs.Segments.{Spaces}
 use Rattle.vm_world.specs.State.{KernelState, mode_of}
 use Rattle.vm_world.specs.World.{World, core_of, AllTell}
 use Rattle.vm_world.specs.WorldSteps.{KeepsTables}
 
 -- A call is done on pages alone: no table, disk or frame moves; memory and the notes fit as before; and in flat memory, as the disks tell it, the entry is
--- due, and flat memory is then what its call makes of it.
+-- due, and flat memory is then what its call makes of it; and whatever disks tell, what its call makes of flat memory has the same shape.
 pub record ActsOnPages (old new : World) (spaces : Spaces) (e : Entry) : Type 0 where
   pub tables : KeepsTables old new
   pub core : core_of new.store ≡ core_of old.store
@@ -37,6 +39,8 @@ pub record ActsOnPages (old new : World) (spaces : Spaces) (e : Entry) : Type 0 
   pub acts : (born : set.FinSet nat_cmp) (notes : Notes) → NotesFit old notes → AllTell old notes → IsFlat (flat_memory (record { world = old; spaces = spaces }) born notes)
       → IsDue (flat_memory (record { world = old; spaces = spaces }) born notes) e
       × (flat_memory (record { world = new; spaces = spaces }) born notes ≡ after_act (flat_memory (record { world = old; spaces = spaces }) born notes) e)
+  pub shaped : (born : set.FinSet nat_cmp) (notes : Notes)
+      → SameShape (after_act (flat_memory (record { world = old; spaces = spaces }) born notes) e) (flat_memory (record { world = old; spaces = spaces }) born notes)
 
 -- What no call changes: the core of the frames and the order of the disks, the number of the frames, the slots, the disks and their blocks, and the files' names, disks and modes.
 pub record KeepsMachine (old new : World) : Type 0 where
@@ -47,9 +51,9 @@ pub record KeepsMachine (old new : World) : Type 0 where
   pub modes : map mode_of new.files.files ≡ map mode_of old.files.files
   pub bays : new.store.bays ≡ old.store.bays
 
--- A process changes memory: the machine and the spaces of the other processes stay; memory and the notes fit as before; disks tell where they told; and
--- this is said of flat memory before and after, as the disks tell it.
-pub record ChangesMemory (p : ℕ) (old new : Memory) (means : Flat → Flat → Type 0) : Type 0 where
+-- A process changes memory: the machine and the spaces of the other processes stay; memory and the notes fit as before; disks tell where they told; this is
+-- said of flat memory before and after, as the disks tell it; and whatever disks tell, it has the shape then of what this function makes of it.
+pub record TurnsMemory (p : ℕ) (old new : Memory) (after : Flat → Flat) (means : Flat → Flat → Type 0) : Type 0 where
   pub machine : KeepsMachine old.world new.world
   pub others : (q : ℕ) → q ≢ p → finite.get new.spaces q ≡ finite.get old.spaces q
   pub memory : MemoryFits new
@@ -57,17 +61,22 @@ pub record ChangesMemory (p : ℕ) (old new : Memory) (means : Flat → Flat →
   pub tells : (notes : Notes) → NotesFit old.world notes → AllTell old.world notes ↔ AllTell new.world notes
   pub flat : (born : set.FinSet nat_cmp) (notes : Notes) → NotesFit old.world notes → AllTell old.world notes → IsFlat (flat_memory old born notes)
       → means (flat_memory old born notes) (flat_memory new born notes)
+  pub shaped : (born : set.FinSet nat_cmp) (notes : Notes) → SameShape (flat_memory new born notes) (after (flat_memory old born notes))
+
+-- Flat memory is this function of what it was.
+abbrev pub ChangesMemory : ℕ → Memory → Memory → (Flat → Flat) → Type 0
+ChangesMemory p old new after = TurnsMemory p old new after (λ F G. G ≡ after F)
 
 -- A call is done: in flat memory the entry is due, and flat memory is then what its call makes of it.
 abbrev pub ActsOnMemory : Memory → Memory → Entry → Type 0
-ActsOnMemory old new e = ChangesMemory e.process old new (λ F G. IsDue F e × (G ≡ after_act F e))
+ActsOnMemory old new e = TurnsMemory e.process old new (λ F. after_act F e) (λ F G. IsDue F e × (G ≡ after_act F e))
 
 -- The process is alive then, unless the call is an Exit.
 abbrev pub StaysAlive : Memory → ℕ → Call → Type 0
 StaysAlive m p call = IsFalse (is_exit call) → IsSome (finite.get m.spaces p)
 
 -- The entry may be made now: it takes the pending tails; its call is well formed, no Fork, and has its own reply; a Sync says where it may have begun; and
--- the file of its call is free, or the call goes on with the part that has the file.
+-- the file of its call is free, or the call goes on with the part that has the file; and its signal or errno, or that it has none, is what is due.
 pub record MayEnter (s : KernelState) (seat : ℕ) (e : Entry) : Type 0 where
   pub try : CanTry s seat e.process e.call
   pub cleared : e.cleared ≡ s.pending
@@ -76,15 +85,17 @@ pub record MayEnter (s : KernelState) (seat : ℕ) (e : Entry) : Type 0 where
   pub done : IsFalse (is_io e.reply)
   pub sync : (b : ℕ) → e.reply ≡ Synced b → IsStart s.history (length s.history) e.process b
   pub file : MayUseFile e seat s.calls
+  pub refusal : IsRefusal s.memory e.process e.call (refusal_in e.reply)
 
--- A call that is done on pages alone is done. One change after another is a change, where the first leaves flat memory well formed. And a call that is
+-- A call that is done on pages alone is done. One change after another is a change, where the first leaves flat memory well formed and the second respects
+-- its shape. And a call that is
 -- done, of a seat that has nothing outside, is an event, with its entry.
 pub record CallRule : Type 0 where
   pub pages : (old new : World) (spaces : Spaces) (e : Entry) → ActsOnPages old new spaces e
       → ActsOnMemory (record { world = old; spaces = spaces }) (record { world = new; spaces = spaces }) e
   pub joined : (p : ℕ) (u v w : Memory) (first second : Flat → Flat)
       → ((born : set.FinSet nat_cmp) (notes : Notes) → NotesFit u.world notes → AllTell u.world notes → IsFlat (flat_memory u born notes) → IsFlat (first (flat_memory u born notes)))
-      → ChangesMemory p u v (λ F G. G ≡ first F) → ChangesMemory p v w (λ F G. G ≡ second F) → ChangesMemory p u w (λ F G. G ≡ second (first F))
+      → RespectsShape second → ChangesMemory p u v first → ChangesMemory p v w second → ChangesMemory p u w (λ F. second (first F))
   pub done : (s : KernelState) (new : Memory) (seat : ℕ) (e : Entry) (calls syncs : List (Option ℕ)) → ActsOnMemory s.memory new e
       → StaysAlive new e.process e.call → MayEnter s seat e
       → LocksAfter e s.calls calls → StartsAfter e s.syncs syncs → length syncs ≡ length s.syncs

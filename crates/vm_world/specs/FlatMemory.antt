@@ -14,6 +14,7 @@ use Rattle.anon_map.specs.Maps.{places_of}
 use Rattle.page_store.specs.Notes.{Notes}
 use Rattle.flat_model.specs.Words.{Page, zero_page, pages_in}
 use Rattle.flat_model.specs.Flat.{Cell, File, Flat, Space}
+pub use Rattle.flat_model.specs.Shapes.{map_with}
 use Rattle.vm_world.specs.Segments.{Segment, Spot, Spaces, zero_map}
 use Rattle.vm_world.specs.World.{World}
 use Rattle.vm_world.specs.Pages.{Contents, contents_of}
@@ -31,10 +32,6 @@ pub record Shape : Type 0 where
   pub files : List FileInfo
   pub lengths : ℕ → ℕ
   pub spaces : Spaces
-
--- The finite map with each value changed.
-abbrev pub map_with : {X Y : Type 0} → (X → Y) → finite.FinMap nat_cmp X → finite.FinMap nat_cmp Y
-map_with f m = finite.from_entries (map (λ e. (e.0, f e.1)) (finite.entries m))
 
 -- What a private cell whose place holds no slot has as its own: zeros where it is new zero memory, else none.
 abbrev pub own_without_slot : Object → Option Page

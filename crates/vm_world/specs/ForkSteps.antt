@@ -16,6 +16,7 @@ use Rattle.flat_model.specs.Access.{with_space}
 use Rattle.flat_model.specs.Flat.{Flat, IsFlat, Space}
 use Rattle.flat_model.specs.Mapping.{cells_of}
 use Rattle.flat_model.specs.Processes.{with_child}
+use Rattle.flat_model.specs.Shapes.{SameShape}
 use Rattle.flat_model.specs.Step.{IsDue, after_act}
 use Rattle.page_store.specs.Notes.{Notes}
 use Rattle.vm_world.specs.CallSteps.{ActsOnMemory, KeepsMachine, StaysAlive}
@@ -27,6 +28,7 @@ use Rattle.vm_world.specs.FlatMemory.{Memory, flat_memory, zero_maps}
 use Rattle.vm_world.specs.MapSteps.{maps_held}
 use Rattle.vm_world.specs.MemoryFits.{MemoryFits}
 use Rattle.vm_world.specs.NotesFit.{NotesFit}
+use Rattle.vm_world.specs.Plans.{IsRefusal, refusal_in}
 use Rattle.vm_world.specs.SegmentSteps.{ChangesSegments}
 use Rattle.vm_world.specs.State.{KernelState}
 use Rattle.vm_world.specs.World.{AllTell}
@@ -99,9 +101,9 @@ with_empty_process m p = record m { spaces = finite.insert m.spaces p [] }
 abbrev pub with_child_born : Flat → ℕ → Flat
 with_child_born F p = with_space (record F { born = set.insert F.born p }) p finite.empty
 
--- A process is born as memory changes: the machine and the spaces of the others stay; memory and the notes fit as before; disks tell where they told; and
--- this is said of flat memory before and after, as the disks tell it.
-pub record BearsProcess (child : ℕ) (old new : Memory) (means : Flat → Flat → Type 0) : Type 0 where
+-- A process is born as memory changes: the machine and the spaces of the others stay; memory and the notes fit as before; disks tell where they told; this is
+-- said of flat memory before and after, as the disks tell it; and whatever disks tell, it has the shape then of what this function makes of it.
+pub record BringsProcess (child : ℕ) (old new : Memory) (after : Flat → Flat) (means : Flat → Flat → Type 0) : Type 0 where
   pub absent : finite.get old.spaces child ≡ None
   pub here : IsSome (finite.get new.spaces child)
   pub machine : KeepsMachine old.world new.world
@@ -111,13 +113,20 @@ pub record BearsProcess (child : ℕ) (old new : Memory) (means : Flat → Flat 
   pub tells : (notes : Notes) → NotesFit old.world notes → AllTell old.world notes ↔ AllTell new.world notes
   pub flat : (born : set.FinSet nat_cmp) (notes : Notes) → NotesFit old.world notes → AllTell old.world notes → IsFlat (flat_memory old born notes)
       → means (flat_memory old born notes) (flat_memory new (set.insert born child) notes)
+  pub shaped : (born : set.FinSet nat_cmp) (notes : Notes) → SameShape (flat_memory new (set.insert born child) notes) (after (flat_memory old born notes))
 
--- The entry of a Fork may be made now: it takes the pending tails, its call is well formed, and its child is the process's own, and new.
+-- Flat memory is this function of what it was.
+abbrev pub BearsProcess : ℕ → Memory → Memory → (Flat → Flat) → Type 0
+BearsProcess child old new after = BringsProcess child old new after (λ F G. G ≡ after F)
+
+-- The entry of a Fork may be made now: it takes the pending tails, its call is well formed, its child is the process's own, and new, and its errno, or
+-- that it has none, is what is due.
 pub record MayFork (s : KernelState) (seat child : ℕ) (e : Entry) : Type 0 where
   pub fork : e.call ≡ Fork child
   pub try : CanTry s seat e.process e.call
   pub cleared : e.cleared ≡ s.pending
   pub formed : IsWellFormed e.call
+  pub refusal : IsRefusal s.memory e.process e.call (refusal_in e.reply)
 
 -- A copy of a part comes for another process: in flat memory that process has the cells which the other has there, and nothing else changes; no zero object comes or goes. One copy after
 -- another copies the cells of both, where the other process has none between. A process that comes, and is then given all the cells of another, is that
@@ -133,9 +142,9 @@ pub record ForkRule : Type 0 where
       → ChangesSegments child u w (λ F. with_cells_copied F p child 0 (first + n))
   pub forked : (m n : Memory) (p child : ℕ) (parent : List (Part Segment)) (end : ℕ) → MemoryFits m → finite.get m.spaces p ≡ Some parent → finite.get m.spaces child ≡ None
       → ((q : ℕ) → end ≤ q → part_at parent q ≡ None) → IsSome (finite.get n.spaces child) → ChangesSegments child (with_empty_process m child) n (λ F. with_cells_copied F p child 0 end)
-      → BearsProcess child m n (λ F G. G ≡ with_child F p child)
+      → BearsProcess child m n (λ F. with_child F p child)
   pub done : (s : KernelState) (new : Memory) (seat child : ℕ) (e : Entry) (calls syncs : List (Option ℕ)) → MayFork s seat child e → e.reply ≡ Done
-      → BearsProcess child s.memory new (λ F G. IsDue F e × (G ≡ after_act F e))
+      → BringsProcess child s.memory new (λ F. after_act F e) (λ F G. IsDue F e × (G ≡ after_act F e))
       → LocksAfter e s.calls calls → StartsAfter e s.syncs syncs → length syncs ≡ length s.syncs
       → IsEvent seat s None (with_entry_made (record s { memory = new; born = set.insert s.born child }) e calls syncs) None
   pub refused : (s : KernelState) (new : Memory) (seat child : ℕ) (e : Entry) (errno : Errno) (calls syncs : List (Option ℕ)) → MayFork s seat child e → e.reply ≡ Refused errno

@@ -4,13 +4,13 @@ use Rattle.std.specs.FinSet as set
 use Rattle.std.specs.Ordering.{nat_cmp}
 use Rattle.flat_model.specs.vm_types.declared.call.Call.{Call}
 use Rattle.flat_model.specs.vm_types.declared.call.Reply.{Reply}
-use Rattle.flat_model.specs.vm_types.declared.call.Reply.TheVariants as reply
 use Rattle.page_store.specs.Notes.{Notes}
 use Rattle.page_store.specs.Steps.{next_frame}
 use Rattle.page_store.specs.Transfers.{is_push}
 use Rattle.page_store.specs.Waits.{Waits, plan_page}
 use Rattle.page_store.specs.declared.plan.Plan.{Plan}
 use Rattle.flat_model.specs.Step.{MayFail, effect}
+pub use Rattle.flat_model.specs.Shapes.{refusal_in}
 use Rattle.vm_world.specs.FlatMemory.{Memory, flat_memory}
 use Rattle.vm_world.specs.State.{Caller}
 use Rattle.vm_world.specs.Wants.{MayPlan}
@@ -25,12 +25,6 @@ pub record CanRunPlan (m : Memory) (of : Option Caller) (plan : Plan) : Type 0 w
 -- In flat memory the call may meet a device error, whatever the seats have outside.
 abbrev pub MayMeetFault : Memory → ℕ → Call → Type 0
 MayMeetFault m p call = (born : set.FinSet nat_cmp) (notes : Notes) → MayFail (flat_memory m born notes) p call
-
--- A reply that is a signal or an errno; none for any other.
-abbrev pub refusal_in : Reply → Option Reply
-refusal_in (reply.Signal s) = Some (reply.Signal s)
-refusal_in (reply.Refused e) = Some (reply.Refused e)
-refusal_in r = None
 
 -- THE REFUSAL THAT IS DUE to a call in flat memory, a signal or an errno, or that none is; whatever the seats have outside, and whether disks tell or not.
 abbrev pub IsRefusal : Memory → ℕ → Call → Option Reply → Type 0

@@ -14,9 +14,10 @@ use Rattle.flat_model.specs.Access.{with_space}
 use Rattle.flat_model.specs.Flat.{Cell, Flat, is_named, without_unnamed, reserved}
 use Rattle.flat_model.specs.Mapping.{cells_of, new_number, own_for, without_pages}
 use Rattle.flat_model.specs.Processes.{without_process}
+use Rattle.flat_model.specs.Shapes.{RespectsShape}
 use Rattle.flat_model.specs.Space.{with_cells}
 use Rattle.flat_model.specs.Words.{zero_page}
-use Rattle.vm_world.specs.CallSteps.{ChangesMemory}
+use Rattle.vm_world.specs.CallSteps.{TurnsMemory}
 use Rattle.vm_world.specs.CountsFit.{ObjectFits, ShowsZero, slots_for_part}
 use Rattle.vm_world.specs.FlatMemory.{Memory, flat_memory, space_with, zero_maps}
 use Rattle.vm_world.specs.MapSteps.{maps_cut, maps_made, maps_held, maps_released, places_released}
@@ -118,11 +119,11 @@ with_zero_object F z n = record F { zeros = finite.insert F.zeros z (replicate n
 
 -- The segments of one process change, and flat memory becomes this.
 abbrev pub ChangesSegments : ℕ → Memory → Memory → (Flat → Flat) → Type 0
-ChangesSegments p old new f = ChangesMemory p old new (Becomes f)
+ChangesSegments p old new f = TurnsMemory p old new f (Becomes f)
 
 -- A part that is cut in two leaves flat memory as it was. A part goes: then its pages have no cells, and a zero object that no cell names any more is gone.
 -- A part comes where no other is: then its pages have its cells. And a process goes that has no part. Numbers that name no anon map, and a step of the
--- world that keeps all pages, leave flat memory as it was; and one change comes after another.
+-- world that keeps all pages, leave flat memory as it was; and one change comes after another, where that respects the shape of flat memory.
 pub record SegmentRule : Type 0 where
   pub cut : (m : Memory) (p page number : ℕ) (parts : List (Part Segment)) (x : Part Segment) → MemoryFits m → finite.get m.spaces p ≡ Some parts
       → part_at parts page ≡ Some x → x.first < page → (IsSome x.piece.own → IsUnused m.world.maps number)
@@ -139,7 +140,7 @@ pub record SegmentRule : Type 0 where
   pub numbers : (m : Memory) (p more : ℕ) → MemoryFits m → ChangesSegments p m (with_more_numbers m more) (λ F. F)
   pub keeps : (p : ℕ) (old new : World) (spaces : Spaces) → MemoryFits (record { world = old; spaces = spaces }) → WorldStep old new spaces stays (λ name. false)
       → ChangesSegments p (record { world = old; spaces = spaces }) (record { world = new; spaces = spaces }) (λ F. F)
-  pub joined : (p : ℕ) (u v w : Memory) (first second : Flat → Flat) → ChangesSegments p u v first → ChangesSegments p v w second
+  pub joined : (p : ℕ) (u v w : Memory) (first second : Flat → Flat) → RespectsShape second → ChangesSegments p u v first → ChangesSegments p v w second
       → ChangesSegments p u w (λ F. second (first F))
   -- A change that is said by one function of flat memory may be said by another that gives the same.
   pub same : (p : ℕ) (u v : Memory) (f g : Flat → Flat) → ((born : set.FinSet nat_cmp) (notes : Notes) → f (flat_memory u born notes) ≡ g (flat_memory u born notes))
