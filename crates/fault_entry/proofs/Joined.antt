@@ -1,5 +1,5 @@
 -- A call that is done after memory changed, so that it does the same as if it hadn't.
-use Rattle.std.proofs.Common.{◌≡◌, ℕ, ◌%◌, ◌==◌, Bool, true, false, Option, Some, None, Ok, refl, sym, ap, ◌∙◌, subst}
+use Rattle.std.proofs.Common.{◌≡◌, ℕ, ◌%◌, ◌==◌, true, Option, Some, None, refl, sym, ap, ◌∙◌, subst}
 use Rattle.std.specs.Option.{option_map_or}
 use Rattle.std.specs.FinSet as set
 use Rattle.std.specs.Ordering.{nat_cmp}
@@ -11,7 +11,9 @@ use Rattle.seg_vn.specs.page_store.Notes.{Notes}
 use Rattle.seg_vn.specs.flat_model.Access.{store}
 use Rattle.seg_vn.specs.flat_model.Flat.{Cell, Flat, IsFlat, cell_at, shown}
 use Rattle.seg_vn.specs.flat_model.Refusals.{Effect}
+use Rattle.seg_vn.specs.flat_model.Shapes.{without_bytes}
 use Rattle.seg_vn.specs.flat_model.Step.{IsDue, after_act}
+use Rattle.seg_vn.proofs.flat_model.ShapeSteps.{act-same}
 use Rattle.seg_vn.specs.flat_model.Words.{Page, page}
 use Rattle.seg_vn.proofs.flat_model.Stores.{met_is}
 use Rattle.seg_vn.specs.vm_world.CallSteps.{ActsOnMemory, ChangesMemory}
@@ -21,10 +23,14 @@ use Rattle.seg_vn.specs.vm_world.World.{AllTell}
 use Rattle.seg_vn.specs.seg_ops.OwnPages.{with_own_shown, with_shown}
 use Rattle.seg_vn.proofs.seg_ops.OwnShown.{own_shown_law}
 
+-- The entry does the same after this function: it is due where it is then, and leaves what it does then.
+pub record DoesSame (f : Flat → Flat) (e : Entry) (F : Flat) : Type 0 where
+  pub due : IsDue (f F) e → IsDue F e
+  pub after : after_act (f F) e ≡ after_act F e
+
 -- A CALL IS DONE after a change of memory after which it does what it would have done before.
 pub acts-after : (u v w : Memory) (e : Entry) (f : Flat → Flat) → ((born : set.FinSet nat_cmp) (notes : Notes) → NotesFit u.world notes → AllTell u.world notes → IsFlat (flat_memory u born notes) → IsFlat (f (flat_memory u born notes)))
-    → ((born : set.FinSet nat_cmp) (notes : Notes) → IsDue (f (flat_memory u born notes)) e → IsDue (flat_memory u born notes) e × (after_act (f (flat_memory u born notes)) e ≡ after_act (flat_memory u born notes) e))
-    → ChangesMemory e.process u v (λ F G. G ≡ f F) → ActsOnMemory v w e → ActsOnMemory u w e
+    → ((born : set.FinSet nat_cmp) (notes : Notes) → DoesSame f e (flat_memory u born notes)) → ChangesMemory e.process u v f → ActsOnMemory v w e → ActsOnMemory u w e
 acts-after u v w e f whole same a b = record {
   machine = record {
     core = b.machine.core ∙ a.machine.core;
@@ -41,8 +47,9 @@ acts-after u v w e f whole same a b = record {
   flat = λ born notes nf tell is.
       let mid : flat_memory v born notes ≡ f (flat_memory u born notes) = a.flat born notes nf tell is in
       let act = b.flat born notes (a.notes notes nf) ((a.tells notes nf).0 tell) (subst IsFlat (sym mid) (whole born notes nf tell is)) in
-      let s = same born notes (subst (λ (F : Flat). IsDue F e) mid act.0) in
-      (s.0, act.1 ∙ ap (λ (F : Flat). after_act F e) mid ∙ s.1);
+      let s = same born notes in
+      (s.due (subst (λ (F : Flat). IsDue F e) mid act.0), act.1 ∙ ap (λ (F : Flat). after_act F e) mid ∙ s.after);
+  shaped = λ born notes. b.shaped born notes ∙ act-same e (flat_memory v born notes) (f (flat_memory u born notes)) (a.shaped born notes) ∙ ap without_bytes (same born notes).after;
 }
 
 -- A STORE does the same once a private cell has the page that it shows as its own, whatever that is.
@@ -56,9 +63,7 @@ store-own F p a n v c even at allowed = by_shown (shown F c) refl
     by_shown (Some new) is = own_shown_law.stores F p a n v c new (met_is F p can_write a n c new (record { aligned = even; cell = at; allowed = allowed; shows = is }))
 
 pub store-same : (F : Flat) (p a n v cleared : ℕ) (c : Cell) → (a % n == 0) ≡ true → cell_at F p (page a) ≡ Some c → can_write c.prot ≡ true
-    → IsDue (with_own_shown F p (page a)) (record { process = p; call = call.Store a n v; reply = reply.Done; cleared = cleared })
-    → IsDue F (record { process = p; call = call.Store a n v; reply = reply.Done; cleared = cleared })
-    × (after_act (with_own_shown F p (page a)) (record { process = p; call = call.Store a n v; reply = reply.Done; cleared = cleared }) ≡ after_act F (record { process = p; call = call.Store a n v; reply = reply.Done; cleared = cleared }))
-store-same F p a n v cleared c even at allowed due =
+    → DoesSame (λ G. with_own_shown G p (page a)) (record { process = p; call = call.Store a n v; reply = reply.Done; cleared = cleared }) F
+store-same F p a n v cleared c even at allowed =
     let same = store-own F p a n v c even at allowed in
-    (sym (ap (λ (e : Effect). e.reply) same) ∙ due, ap (λ (e : Effect). e.after) same)
+    record { due = λ due. sym (ap (λ (e : Effect). e.reply) same) ∙ due; after = ap (λ (e : Effect). e.after) same }

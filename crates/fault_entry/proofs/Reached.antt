@@ -30,6 +30,7 @@ use Rattle.seg_vn.specs.vm_world.TranslationsFit.{MayWriteInPlace}
 use Rattle.seg_vn.specs.vm_world.World.{World}
 use Rattle.seg_vn.proofs.vm_world.CallSteps.{call_rule}
 use Rattle.seg_vn.proofs.vm_world.FlatWhole.{some-inj}
+use Rattle.seg_vn.proofs.vm_world.Shapes.{same-respects}
 use Rattle.seg_vn.specs.seg_ops.OwnPages.{with_own_shown}
 use Rattle.seg_vn.specs.seg_ops.declared.plans.Fault.TheVariants as fault
 use Rattle.seg_vn.specs.vm_world.declared.wants.Wants.{Wants}
@@ -102,7 +103,7 @@ accessed-right p q write u t is = by_place (holds p q (Some u)) is
 
 -- NOTHING is done: what is said of a memory that stays.
 module _ (w : World) (spaces : Spaces) (pending p a n : ℕ) (write : Bool) (f : MemoryFits (memory_of w spaces)) where
-  abbrev same-machine : ChangesMemory p (memory_of w spaces) (memory_of w spaces) (λ F G. G ≡ F)
+  abbrev same-machine : ChangesMemory p (memory_of w spaces) (memory_of w spaces) (λ F. F)
   same-machine = changes-kept p w w spaces f (keeps-same w spaces f)
 
   signal-serves : (s : Signal) → ((born : set.FinSet nat_cmp) (notes : Notes) → access_target (flat_memory (memory_of w spaces) born notes) p (may_access write) a n ≡ Err s)
@@ -134,7 +135,7 @@ module _ (w : World) (spaces : Spaces) (pending p a n : ℕ) (write : Bool) (f :
         mid = new;
         first = takes-none w new spaces pending keeps;
         acts = changes-as p (memory_of new spaces) (memory_of new spaces) (λ F. F) (λ F. after_reach (access.Reached frame) write F p (page a))
-            (λ born notes nf tell whole. hit-same new spaces p a n frame write keeps.memory r born notes)
+            (λ born notes. hit-same new spaces p a n frame write keeps.memory r born notes)
             (changes-kept p new new spaces keeps.memory (keeps-same new spaces keeps.memory));
         ends = tt;
         slots = λ y there. slots-kept w new y write (subst (λ (z : Spot). slot_due w.anon w.maps z write ≡ None) (some-inj x y (sym here ∙ there)) still) anon maps;
@@ -182,9 +183,9 @@ module _ (old new : World) (spaces : Spaces) (pending more p a n : ℕ) (write :
     mid = s.mid;
     first = s.first;
     acts = changes-as p (memory_of s.mid spaces) (memory_of new spaces) (λ F. after_fault (Ok fault.Loaded) write F p (page a)) (λ F. after_reach (access.Reached frame) write F p (page a))
-        (λ born notes nf tell whole. reach-is write frame (flat_memory (memory_of s.mid spaces) born notes) p (page a))
+        (λ born notes. reach-is write frame (flat_memory (memory_of s.mid spaces) born notes) p (page a))
         (call_rule.joined p (memory_of s.mid spaces) (memory_of mid spaces) (memory_of new spaces) (λ F. after_fault (Ok fault.Loaded) write F p (page a)) (λ F. F)
-        (λ born notes nf tell whole. fault-whole (Ok fault.Loaded) write (flat_memory (memory_of s.mid spaces) born notes) p (page a) whole) s.acts (changes-kept p mid new spaces s.acts.memory keeps));
+        (λ born notes nf tell whole. fault-whole (Ok fault.Loaded) write (flat_memory (memory_of s.mid spaces) born notes) p (page a) whole) same-respects s.acts (changes-kept p mid new spaces s.acts.memory keeps));
     ends = tt;
     slots = λ y there. subst (λ (z : Spot). MakesSlotAt old new (slot_due old.anon old.maps z write)) (some-inj x y (sym here ∙ there)) (made-still old mid new (slot_due old.anon old.maps x write) anon maps s.slots);
     due = not-due s.past;

@@ -19,7 +19,6 @@ use Rattle.seg_vn.specs.vm_types.Prot.{can_read, can_write}
 use Rattle.seg_vn.specs.flat_model.Access.{access_target, load, store, with_page_stored}
 use Rattle.seg_vn.specs.flat_model.Flat.{Cell, Flat, IsFlat}
 use Rattle.seg_vn.specs.flat_model.Refusals.{or_signal, done_effect}
-use Rattle.seg_vn.specs.flat_model.Step.{IsDue, after_act}
 use Rattle.seg_vn.specs.flat_model.Words.{Page, page, word_at, word_put}
 use Rattle.seg_vn.specs.vm_world.CallSteps.{ActsOnPages}
 use Rattle.seg_vn.specs.vm_world.FlatMemory.{Memory, cell_of, flat_memory}
@@ -47,7 +46,7 @@ use Rattle.fault_entry.specs.Accesses.{IsShown, IsHit, ServesWord}
 use Rattle.fault_entry.specs.Reaching.{ReachModifies, ServesAccess, IsSignalDue, after_reach, error_in}
 use Rattle.fault_entry.specs.declared.access.AccessStep.{AccessStep}
 use Rattle.fault_entry.specs.declared.access.AccessStep.TheVariants as access
-use Rattle.fault_entry.proofs.Joined.{acts-after, store-same}
+use Rattle.fault_entry.proofs.Joined.{DoesSame, acts-after, store-same}
 use Rattle.fault_entry.proofs.Targets.{there}
 use Rattle.fault_entry.proofs.Words.{load-signals, store-signals, load-acts, store-acts}
 
@@ -82,9 +81,7 @@ store-refusal m p a n v s due born notes = store-due (flat_memory m born notes) 
 
 -- frames are taken, a page may be made, and then pages change
 done-serves : (old new : World) (made : World) (spaces : Spaces) (pending more p a n : ℕ) (write : Bool) (answer : AccessStep) (c : Call) (r : Reply) → (s : ServesAccess (memory_of old spaces) (memory_of made spaces) pending more p a n write answer)
-    → ((cleared : ℕ) (born : set.FinSet nat_cmp) (notes : Notes) → IsDue (after_reach answer write (flat_memory (memory_of s.mid spaces) born notes) p (page a)) (record { process = p; call = c; reply = r; cleared = cleared })
-    → IsDue (flat_memory (memory_of s.mid spaces) born notes) (record { process = p; call = c; reply = r; cleared = cleared })
-    × (after_act (after_reach answer write (flat_memory (memory_of s.mid spaces) born notes) p (page a)) (record { process = p; call = c; reply = r; cleared = cleared }) ≡ after_act (flat_memory (memory_of s.mid spaces) born notes) (record { process = p; call = c; reply = r; cleared = cleared })))
+    → ((cleared : ℕ) (born : set.FinSet nat_cmp) (notes : Notes) → DoesSame (λ F. after_reach answer write F p (page a)) (record { process = p; call = c; reply = r; cleared = cleared }) (flat_memory (memory_of s.mid spaces) born notes))
     → ((cleared : ℕ) → ActsOnPages made new spaces (record { process = p; call = c; reply = r; cleared = cleared })) → new.store.names ≡ made.store.names → IsRefusal (memory_of old spaces) p c (refusal_in r) → ModifiesOnly (MayModify (memory_of old spaces) (memory_of new spaces) p c r) old new → ((from : ℕ) → r ≢ reply.Synced from)
     → ServesDone (memory_of old spaces) (memory_of new spaces) pending more p c r
 done-serves old new made spaces pending more p a n write answer c r s same acts names refusal modified plain = record {
@@ -120,8 +117,8 @@ pub store-reached : (old mid new : World) (spaces : Spaces) (pending more p a n 
     → new.anon ≡ mid.anon → new.maps ≡ mid.maps → new.store ≡ record mid.store { frames = new.store.frames } → ModifiesNone mid new → new ≡ record mid { store = new.store } → ServesWord (memory_of old spaces) (memory_of new spaces) pending more p (page a) (call.Store a n v) (attempt.Done reply.Done)
 store-reached old mid new spaces pending more p a n frame v s writes hat anon maps store modified only = record {
   serves = λ calls. done-serves old new mid spaces pending more p a n true (access.Reached frame) (call.Store a n v) reply.Done s
-      (λ cleared born notes due. store-same (flat_memory (memory_of s.mid spaces) born notes) p a n v cleared (cell_of (contents_of s.mid notes).place s.means.spot) (eq-eqb (a % n) 0 s.means.aligned)
-      (there s.mid spaces born notes p a n can_write s.means.spot s.means.here) s.means.allowed due)
+      (λ cleared born notes. store-same (flat_memory (memory_of s.mid spaces) born notes) p a n v cleared (cell_of (contents_of s.mid notes).place s.means.spot) (eq-eqb (a % n) 0 s.means.aligned)
+      (there s.mid spaces born notes p a n can_write s.means.spot s.means.here) s.means.allowed)
       (λ cleared. store-acts mid new spaces p a n frame v cleared s.acts.memory s.means writes) (ap (λ (st : StoreSeen). st.names) store) (store-refusal (memory_of old spaces) p a n v None s.due)
       (then-none (MayModify (memory_of old spaces) (memory_of new spaces) p (call.Store a n v) reply.Done) old mid new (only-as (ReachModifies (memory_of mid spaces) p (page a) true (access.Reached frame)) (MayModify (memory_of old spaces) (memory_of new spaces) p (call.Store a n v) reply.Done) old mid
       (λ name is. (is.0.0, is.0.1, ap (λ (ms : List (Option Map)). shown_name ms is.0.0) maps ∙ is.0.2)) s.modified) modified) (λ from is. let z : reply.Done ≡ reply.Synced from = is in cc);
@@ -141,7 +138,7 @@ module _ (old new : World) (spaces : Spaces) (pending more p a n : ℕ) where
   load-reached frame word s reads =
       let f = s.acts.memory in
       record {
-        serves = λ calls. done-serves old new new spaces pending more p a n false (access.Reached frame) (call.Load a n) (reply.Word word) s (λ cleared born notes due. (due, refl)) (λ cleared. load-acts new spaces p a n frame word cleared f s.means reads) refl (load-refusal (memory_of old spaces) p a n None s.due)
+        serves = λ calls. done-serves old new new spaces pending more p a n false (access.Reached frame) (call.Load a n) (reply.Word word) s (λ cleared born notes. record { due = λ due. due; after = refl }) (λ cleared. load-acts new spaces p a n frame word cleared f s.means reads) refl (load-refusal (memory_of old spaces) p a n None s.due)
             (only-as (ReachModifies (memory_of new spaces) p (page a) false (access.Reached frame)) (MayModify (memory_of old spaces) (memory_of new spaces) p (call.Load a n) (reply.Word word)) old new
             (λ name is. (is.0, elim is.1 [ inl stored ↦ absurd (let z : false ≡ true = stored in cc) | inr unpushed ↦ unpushed ])) s.modified) (λ from is. let z : reply.Word word ≡ reply.Synced from = is in cc);
         due = tt;
@@ -154,7 +151,7 @@ module _ (old new : World) (spaces : Spaces) (pending more p a n : ℕ) where
   pub load-refused : (s : Signal) → ServesAccess (memory_of old spaces) (memory_of new spaces) pending more p a n false (access.Refused s)
       → ServesWord (memory_of old spaces) (memory_of new spaces) pending more p (page a) (call.Load a n) (attempt.Done (reply.Signal s))
   load-refused s r = record {
-    serves = λ calls. done-serves old new new spaces pending more p a n false (access.Refused s) (call.Load a n) (reply.Signal s) r (λ cleared born notes due. (due, refl)) (λ cleared. load-signals new spaces p a n cleared s r.acts.memory r.means) refl (load-refusal (memory_of old spaces) p a n (Some s) r.due) r.modified (λ from is. let z : reply.Signal s ≡ reply.Synced from = is in cc);
+    serves = λ calls. done-serves old new new spaces pending more p a n false (access.Refused s) (call.Load a n) (reply.Signal s) r (λ cleared born notes. record { due = λ due. due; after = refl }) (λ cleared. load-signals new spaces p a n cleared s r.acts.memory r.means) refl (load-refusal (memory_of old spaces) p a n (Some s) r.due) r.modified (λ from is. let z : reply.Signal s ≡ reply.Synced from = is in cc);
     due = tt;
     shown = tt;
     slots = r.slots;
@@ -164,7 +161,7 @@ module _ (old new : World) (spaces : Spaces) (pending more p a n : ℕ) where
   pub store-refused : (v : ℕ) (s : Signal) → ServesAccess (memory_of old spaces) (memory_of new spaces) pending more p a n true (access.Refused s)
       → ServesWord (memory_of old spaces) (memory_of new spaces) pending more p (page a) (call.Store a n v) (attempt.Done (reply.Signal s))
   store-refused v s r = record {
-    serves = λ calls. done-serves old new new spaces pending more p a n true (access.Refused s) (call.Store a n v) (reply.Signal s) r (λ cleared born notes due. (due, refl)) (λ cleared. store-signals new spaces p a n v cleared s r.acts.memory r.means) refl (store-refusal (memory_of old spaces) p a n v (Some s) r.due) r.modified (λ from is. let z : reply.Signal s ≡ reply.Synced from = is in cc);
+    serves = λ calls. done-serves old new new spaces pending more p a n true (access.Refused s) (call.Store a n v) (reply.Signal s) r (λ cleared born notes. record { due = λ due. due; after = refl }) (λ cleared. store-signals new spaces p a n v cleared s r.acts.memory r.means) refl (store-refusal (memory_of old spaces) p a n v (Some s) r.due) r.modified (λ from is. let z : reply.Signal s ≡ reply.Synced from = is in cc);
     due = tt;
     shown = tt;
     slots = r.slots;

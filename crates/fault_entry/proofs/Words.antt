@@ -1,6 +1,6 @@
 -- Words of the pages that places show: what loads and stores answer, and what they leave of flat memory.
-use Rattle.std.proofs.Common.{◌≡◌, ◌≢◌, ℕ, ◌%◌, Bool, true, false, cond, [], Option, Some, None, Ok, Err, refl, sym, ap, ◌∙◌, inl, inr, subst}
-use Rattle.std.specs.Prelude.{IsTrue, ◌||◌, not, option_map}
+use Rattle.std.proofs.Common.{◌≡◌, ◌≢◌, ℕ, ◌%◌, Bool, true, false, cond, [], Some, Result, Ok, Err, refl, sym, ap, ◌∙◌, ◌⊎◌, inl, inr, subst}
+use Rattle.std.specs.Prelude.{IsTrue, ◌||◌, not, option_map, if◌then◌else◌}
 use Rattle.std.specs.FinSet as set
 use Rattle.std.specs.Ordering.{nat_cmp}
 use Rattle.std.proofs.lemmas.Bool.{cases_Bool, eq-eqb}
@@ -8,15 +8,17 @@ use Rattle.seg_vn.specs.vm_types.declared.call.Call.TheVariants as call
 use Rattle.seg_vn.specs.vm_types.declared.call.Reply.TheVariants as reply
 use Rattle.seg_vn.specs.vm_types.declared.call.Signal.{Signal}
 use Rattle.seg_vn.specs.vm_types.Prot.{can_read, can_write}
-use Rattle.seg_vn.specs.hat_layer.Pool.{translation_at, lets_access}
+use Rattle.seg_vn.specs.hat_layer.Pool.{translation_at}
 use Rattle.seg_vn.specs.hat_layer.declared.translation.Translation.{Translation}
+use Rattle.seg_vn.specs.page_hash.Names.{is_name}
 use Rattle.seg_vn.specs.page_hash.declared.PageName.{PageName}
 use Rattle.seg_vn.specs.page_store.Notes.{Notes}
 use Rattle.seg_vn.specs.page_store.Value.{value}
 use Rattle.seg_vn.specs.flat_model.Words.{Page, page, word_at, word_put}
 use Rattle.seg_vn.specs.flat_model.Flat.{Cell, Flat}
 use Rattle.seg_vn.specs.flat_model.Access.{access_target, load, store, with_page_stored}
-use Rattle.seg_vn.specs.flat_model.Refusals.{Effect, done_effect}
+use Rattle.seg_vn.specs.flat_model.Refusals.{Effect, done_effect, or_signal}
+use Rattle.seg_vn.specs.flat_model.Shapes.{without_bytes}
 use Rattle.seg_vn.proofs.flat_model.Stores.{met_is}
 use Rattle.seg_vn.specs.vm_world.CallSteps.{ActsOnPages}
 use Rattle.seg_vn.specs.vm_world.FlatMemory.{flat_memory, flat_shaped, shape_of, cell_of}
@@ -25,10 +27,12 @@ use Rattle.seg_vn.specs.vm_world.Pages.{contents_of, contents_by, page_value}
 use Rattle.seg_vn.specs.vm_world.Segments.{Spot, Spaces, spot_at, shown_name}
 use Rattle.seg_vn.specs.vm_world.TranslationsFit.{MayWriteInPlace}
 use Rattle.seg_vn.specs.vm_world.Wants.{shows_page}
-use Rattle.seg_vn.specs.vm_world.World.{World, world_table, is_page_name, page_exists}
+use Rattle.seg_vn.specs.vm_world.World.{World, world_table, is_page_name}
 use Rattle.seg_vn.proofs.vm_world.FlatWhole.{some-inj}
 use Rattle.seg_vn.proofs.vm_world.FrameRule.{shape-same, name-same}
 use Rattle.seg_vn.proofs.vm_world.Maps.{cell-at}
+use Rattle.seg_vn.proofs.vm_world.Shapes.{maps-alike}
+use Rattle.seg_vn.proofs.page_hash.NameLaws.{is_name-same, is_name-true}
 use Rattle.seg_vn.specs.seg_ops.Steps.{ShowsName, ReadsWord, PutsWord, WritesWord}
 use Rattle.seg_vn.proofs.seg_ops.Hits.{hits}
 use Rattle.seg_vn.proofs.seg_ops.Places.{stands-at}
@@ -58,6 +62,7 @@ load-signals w spaces p a n cleared s f target = record {
   acts = λ born notes nf tell whole.
       let o = load-signal (flat_memory (memory_of w spaces) born notes) p a n s (target born notes) in
       (ap (λ (e : Effect). e.reply) o, sym (ap (λ (e : Effect). e.after) o));
+  shaped = λ born notes. ap (λ (e : Effect). without_bytes e.after) (load-signal (flat_memory (memory_of w spaces) born notes) p a n s (target born notes));
 }
 
 pub store-signals : (w : World) (spaces : Spaces) (p a n v cleared : ℕ) (s : Signal) → MemoryFits (memory_of w spaces)
@@ -74,6 +79,7 @@ store-signals w spaces p a n v cleared s f target = record {
   acts = λ born notes nf tell whole.
       let o = store-signal (flat_memory (memory_of w spaces) born notes) p a n v s (target born notes) in
       (ap (λ (e : Effect). e.reply) o, sym (ap (λ (e : Effect). e.after) o));
+  shaped = λ born notes. ap (λ (e : Effect). without_bytes e.after) (store-signal (flat_memory (memory_of w spaces) born notes) p a n v s (target born notes));
 }
 
 -- a page that has a translation is written in place where that is writable
@@ -122,6 +128,25 @@ module _ (w : World) (spaces : Spaces) (p a n frame : ℕ) (write : Bool) (f : M
     shows = shown-page w spaces p (page a) x f r.here born notes name place-shows place-there;
   })
 
+-- A LOAD changes nothing, whatever it meets.
+load-still : (F : Flat) (p a n : ℕ) → (load F p a n).after ≡ F
+load-still F p a n = by_target (access_target F p can_read a n)
+  where
+    by_target : (o : Result (Cell × Page) Signal) → (or_signal F (λ m. record { reply = reply.Word (word_at m.1 a n); after = F }) o).after ≡ F
+    by_target (Ok m) = refl
+    by_target (Err s) = refl
+
+-- THE VALUES of names, one of which has these bytes
+abbrev with_value : (PageName → Page) → PageName → Page → PageName → Page
+with_value values n bytes m = if is_name (Some n) m then bytes else values m
+
+value-else : (values : PageName → Page) (n m : PageName) (bytes : Page) → m ≢ n → with_value values n bytes m ≡ values m
+value-else values n m bytes ne = by_test (cases_Bool (is_name (Some n) m))
+  where
+    by_test : (is_name (Some n) m ≡ true) ⊎ (is_name (Some n) m ≡ false) → with_value values n bytes m ≡ values m
+    by_test (inl t) = absurd (ne (sym (some-inj n m (is_name-true (Some n) m t))))
+    by_test (inr f) = ap (λ (b : Bool). cond b bytes (values m)) f
+
 -- A LOAD is done.
 pub load-acts : (w : World) (spaces : Spaces) (p a n frame word cleared : ℕ) → MemoryFits (memory_of w spaces) → ReachesPage (memory_of w spaces) p a n frame false → ReadsWord w spaces p a n word
     → ActsOnPages w w spaces (record { process = p; call = call.Load a n; reply = reply.Word word; cleared = cleared })
@@ -142,6 +167,7 @@ load-acts w spaces p a n frame word cleared f r reads = record {
         ap (λ (e : Effect). e.reply) loaded ∙ ap (λ (k : ℕ). reply.Word k) (sym read),
         sym (ap (λ (e : Effect). e.after) loaded),
       );
+  shaped = λ born notes. ap without_bytes (load-still (flat_memory (memory_of w spaces) born notes) p a n);
 }
 
 -- A STORE is done.
@@ -174,4 +200,15 @@ store-acts w new spaces p a n frame v cleared f r puts_word =
             shaped ∙ flat-stored w spaces born notes p (page a) r.spot page_name bytes (page_value new notes) f r.here (place-shows w spaces p a n frame true f r) (place-writable w spaces p a n frame true f r refl) (puts.written notes) others
                 ∙ sym (ap (λ (e : Effect). e.after) stored),
           );
+      shaped = λ born notes.
+          let F : Flat = flat_memory (memory_of w spaces) born notes in
+          let cell : Cell = cell_of (contents_of w notes).place r.spot in
+          let bytes : Page = word_put (page_value w notes page_name) a n v in
+          let values : PageName → Page = with_value (page_value w notes) page_name bytes in
+          let met : access_target F p can_write a n ≡ Ok (cell, page_value w notes page_name) = meets w spaces p a n frame true f r born notes in
+          let stored : store F p a n v ≡ done_effect (with_page_stored F p (page a) cell bytes) = rw met refl in
+          let is : flat_shaped (shape_of (memory_of w spaces)) born (contents_by values w.maps) ≡ with_page_stored F p (page a) cell bytes =
+          flat-stored w spaces born notes p (page a) r.spot page_name bytes values f r.here (place-shows w spaces p a n frame true f r) (place-writable w spaces p a n frame true f r refl)
+          (ap (λ (b : Bool). cond b bytes (page_value w notes page_name)) (is_name-same page_name)) (λ m ne. value-else (page_value w notes) page_name m bytes ne) in
+          ap (λ (e : Effect). without_bytes e.after) stored ∙ ap without_bytes (sym is) ∙ maps-alike (shape_of (memory_of w spaces)) born values (page_value w notes) w.maps;
     }

@@ -101,7 +101,7 @@ ReachModifies m p q write answer name = ⊥
 pub record ServesAccess (old new : Memory) (pending more p a n : ℕ) (write : Bool) (answer : AccessStep) : Type 0 where
   pub mid : World
   pub first : TakesFrames old mid pending more
-  pub acts : ChangesMemory p (record old { world = mid }) new (λ F G. G ≡ after_reach answer write F p (page a))
+  pub acts : ChangesMemory p (record old { world = mid }) new (λ F. after_reach answer write F p (page a))
   pub ends : EndsReach answer mid new.world
   pub slots : ReachSlots old new.world p (page a) write answer
   pub due : IsSignalDue old p a n write (signal_in answer)

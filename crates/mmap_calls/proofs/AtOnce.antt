@@ -1,6 +1,6 @@
 -- Calls that are done at once, with a plain reply.
 use Rattle.seg_vn.proofs.flat_model.Frames.{or_nothing as or-false}
-use Rattle.std.proofs.Common.{◌≡◌, ℕ, true, false, List, Option, sym, ap, inr, subst}
+use Rattle.std.proofs.Common.{◌≡◌, ℕ, true, false, List, Option, refl, sym, ap, inr, subst}
 use Rattle.std.specs.FinMap as finite
 use Rattle.std.specs.FinSet as set
 use Rattle.std.specs.Ordering.{nat_cmp}
@@ -13,6 +13,7 @@ use Rattle.seg_vn.specs.vm_types.declared.call.Reply.TheVariants as reply
 use Rattle.seg_vn.specs.flat_model.Flat.{Flat}
 use Rattle.seg_vn.specs.flat_model.Refusals.{Effect}
 use Rattle.seg_vn.specs.flat_model.Step.{effect, is_bit_set, IsDue, after_act}
+use Rattle.seg_vn.specs.flat_model.Shapes.{without_bytes}
 use Rattle.seg_vn.specs.vm_world.FlatMemory.{Memory, flat_memory}
 use Rattle.seg_vn.specs.vm_world.MemoryFits.{MemoryFits}
 use Rattle.seg_vn.specs.vm_world.Plans.{refusal_in}
@@ -38,6 +39,12 @@ acts F G p call (reply.Bytes l) cleared own due after_is = (due, after_is)
 acts F G p call (reply.Signal x) cleared own due after_is = (due, after_is)
 acts F G p call (reply.Refused x) cleared own due after_is = (due, after_is)
 
+-- and what it leaves
+plain-after : (F : Flat) (p : ℕ) (call : Call) (r : Reply) (cleared : ℕ) → IsPlainReply r → (effect F p call).after ≡ after_act F (record { process = p; call = call; reply = r; cleared = cleared })
+plain-after F p call (reply.Io disk before after) cleared own = absurd own
+plain-after F p call (reply.Synced from) cleared own = absurd own
+plain-after F p call r cleared own = refl
+
 -- no frame is taken
 abbrev takes-none : (m : Memory) (pending : ℕ) → MemoryFits m → TakesFrames m m.world pending pending
 takes-none m pending fits = record {
@@ -61,6 +68,7 @@ at-once-serves old new pending more p call r same fits done =
         tells = done.changes.tells;
         flat = λ born notes nf tell whole.
             acts (flat_memory old born notes) (flat_memory new born notes) p call r cleared done.plain (done.due born notes) (done.changes.flat born notes nf tell whole).0;
+        shaped = λ born notes. done.changes.shaped born notes ∙ ap without_bytes (plain-after (flat_memory old born notes) p call r cleared done.plain);
       };
       replaced = λ name is. absurd (let z : false ≡ true = is in cc);
       refusal = λ born notes. ap refusal_in (done.due born notes);

@@ -30,6 +30,7 @@ use Rattle.seg_vn.specs.vm_world.declared.segment.Segment.{Segment}
 use Rattle.seg_vn.proofs.vm_world.Maps.{insert-twice}
 use Rattle.seg_vn.proofs.vm_world.SegmentSteps.{segment_rule}
 use Rattle.seg_vn.proofs.vm_world.SweptFlat.{space-is, cell-is}
+use Rattle.seg_vn.proofs.vm_world.Shapes.{prots-respects}
 use Rattle.seg_vn.specs.Clears.{ChangesSpace, SpaceFits, StartsAt}
 use Rattle.seg_vn.specs.Cuts.{IsPartAt}
 use Rattle.mmap_calls.specs.Protections.{AreMapped, MayHave, lets, most_at}
@@ -263,6 +264,6 @@ range-next p m u v zeros then last spaces now next first page n prot low alike o
     let after : Memory = record { world = v; spaces = finite.insert (finite.insert spaces p now) p next } in
     subst (λ (s : Spaces). ChangesSpace p m (record { world = v; spaces = s }) last (λ F. with_range_prot F p first l prot)) (insert-twice spaces p now next) (record {
       changes = segment_rule.same p m after (λ F. with_range_prot (with_range_prot F p first k prot) p page n prot) (λ F. with_range_prot F p first l prot) (λ born notes. both-protected (flat_memory m born notes) p first k page n l prot at sum)
-          (segment_rule.joined p m mid after (λ F. with_range_prot F p first k prot) (λ F. with_range_prot F p page n prot) one.changes two.changes);
+          (segment_rule.joined p m mid after (λ F. with_range_prot F p first k prot) (λ F. with_range_prot F p page n prot) (prots-respects p page n prot) one.changes two.changes);
       known = subst (λ (zs : List (Option ℕ)). KnowsZeros zs (finite.insert (finite.insert spaces p now) p next)) (sym alike) two.known;
     })

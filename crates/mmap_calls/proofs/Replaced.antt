@@ -25,6 +25,9 @@ use Rattle.seg_vn.specs.flat_model.Refusals.{or_refused}
 use Rattle.seg_vn.specs.flat_model.Space.{is_in_range, without_range, with_cells}
 use Rattle.seg_vn.specs.flat_model.Step.{effect}
 use Rattle.seg_vn.specs.flat_model.Words.{page, pages_in}
+use Rattle.seg_vn.specs.flat_model.Shapes.{RespectsShape, SameShape}
+use Rattle.seg_vn.proofs.flat_model.ShapeSteps.{range-same}
+use Rattle.seg_vn.proofs.flat_model.Shapes.{same-cells, same-number, same-space}
 use Rattle.seg_vn.proofs.flat_model.Ranges.{in_range-is, get-insert, get-insert_here, get-insert_apart}
 use Rattle.seg_vn.specs.vm_world.CountsFit.{ObjectFits, slots_for_part}
 use Rattle.seg_vn.specs.vm_world.FlatMemory.{Memory, flat_memory, zero_maps}
@@ -46,6 +49,7 @@ use Rattle.seg_vn.proofs.vm_world.MoreNumbers.{past-none}
 use Rattle.seg_vn.proofs.vm_world.SegmentCells.{segment_cells}
 use Rattle.seg_vn.proofs.vm_world.SegmentSteps.{segment_rule}
 use Rattle.seg_vn.proofs.vm_world.Unnamed.{cells-after-pages, object-after-pages}
+use Rattle.seg_vn.proofs.vm_world.Shapes.{cells-respects, pages-respects, same-respects, zero-respects}
 use Rattle.seg_vn.proofs.seg_ops.Modified.{modifies-same}
 use Rattle.seg_vn.specs.Clears.{SpaceFits, ChangesSpace, GivesBack}
 use Rattle.seg_vn.proofs.ClearedSpaces.{cut-map}
@@ -59,19 +63,17 @@ use Rattle.mmap_calls.proofs.CutPlaces.{same-space}
 use Rattle.mmap_calls.proofs.MapResults.{most-seen, passed, placed}
 use Rattle.mmap_calls.proofs.RoomAfter.{HoldsFor, IsCleared, holds-none, holds-object, room-after}
 
--- one change after another, said by a function that gives the same once the first is done
-pub changes-as : (p : ℕ) (u v w : Memory) (first second both : Flat → Flat) → ChangesSegments p u v first → ChangesSegments p v w second
-    → ((born : set.FinSet nat_cmp) (notes : Notes) → flat_memory v born notes ≡ first (flat_memory u born notes) → second (first (flat_memory u born notes)) ≡ both (flat_memory u born notes)) → ChangesSegments p u w both
-changes-as p u v w first second both one two same =
-    let c = segment_rule.joined p u v w first second one two in
-    record {
-      machine = c.machine;
-      others = c.others;
-      memory = c.memory;
-      notes = c.notes;
-      tells = c.tells;
-      flat = λ born notes nf tell whole. (let a = one.flat born notes nf tell whole in let x = c.flat born notes nf tell whole in (x.0 ∙ same born notes a.0, x.1));
-    }
+-- one change after another, said by a function that gives the same where flat memory has the shape that the first leaves
+pub changes-as : (p : ℕ) (u v w : Memory) (first second both : Flat → Flat) → RespectsShape second → ChangesSegments p u v first → ChangesSegments p v w second
+    → ((born : set.FinSet nat_cmp) (notes : Notes) → SameShape (flat_memory v born notes) (first (flat_memory u born notes)) → second (first (flat_memory u born notes)) ≡ both (flat_memory u born notes)) → ChangesSegments p u w both
+changes-as p u v w first second both respects one two same =
+    let c = segment_rule.joined p u v w first second respects one two in
+    segment_rule.same p u w (λ F. second (first F)) both (λ born notes. same born notes (one.shaped born notes)) c
+
+-- cells that come where others go respect shapes
+range-respects : (p first n : ℕ) (cell : ℕ → Cell) → RespectsShape (λ F. with_new_cells (with_space F p (without_range (cells_of F p) first n)) p first n cell)
+range-respects p first n cell F G same = cells-respects p first n cell (with_space F p (without_range (cells_of F p) first n)) (with_space G p (without_range (cells_of G p) first n))
+    (same-space F G p (without_range (cells_of F p) first n) (without_range (cells_of G p) first n) same (range-same (cells_of F p) (cells_of G p) first n (same-cells F G p same)))
 
 -- a process whose parts changed is alive with the new ones
 pub fits-after : (p : ℕ) (m : Memory) (w : World) (spaces : Spaces) (parts : List (Part Segment)) (zeros : List (Option ℕ)) (f : Flat → Flat) → ChangesSpace p m (record { world = w; spaces = finite.insert spaces p parts }) zeros f → SpaceFits w zeros (finite.insert spaces p parts) p parts
@@ -95,12 +97,12 @@ pub fits-step : (p : ℕ) (u v : World) (spaces : Spaces) (a b : List (Part Segm
 fits-step p u v spaces a b zeros then f fits step = fits-after p (record { world = u; spaces = spaces }) v spaces b then f (step spaces fits)
 
 -- one step after another
-pub joined : (p : ℕ) (m : Memory) (u v : World) (spaces : Spaces) (a b : List (Part Segment)) (zeros then : List (Option ℕ)) (f : Flat → Flat) → ChangesSpace p m (record { world = u; spaces = finite.insert spaces p a }) zeros (λ F. F)
+pub joined : (p : ℕ) (m : Memory) (u v : World) (spaces : Spaces) (a b : List (Part Segment)) (zeros then : List (Option ℕ)) (f : Flat → Flat) → RespectsShape f → ChangesSpace p m (record { world = u; spaces = finite.insert spaces p a }) zeros (λ F. F)
     → ChangesSpace p (record { world = u; spaces = finite.insert spaces p a }) (record { world = v; spaces = finite.insert (finite.insert spaces p a) p b }) then f
     → ChangesSpace p m (record { world = v; spaces = finite.insert spaces p b }) then f
-joined p m u v spaces a b zeros then f first second =
+joined p m u v spaces a b zeros then f respects first second =
     subst (λ (s : Spaces). ChangesSpace p m (record { world = v; spaces = s }) then f) (insert-twice spaces p a b)
-    (record { changes = segment_rule.joined p m (record { world = u; spaces = finite.insert spaces p a }) (record { world = v; spaces = finite.insert (finite.insert spaces p a) p b }) (λ F. F) f first.changes second.changes; known = second.known })
+    (record { changes = segment_rule.joined p m (record { world = u; spaces = finite.insert spaces p a }) (record { world = v; spaces = finite.insert (finite.insert spaces p a) p b }) (λ F. F) f respects first.changes second.changes; known = second.known })
 
 pub cuts-done : (m : Memory) (p : ℕ) (u v w : World) (parts taken a b : List (Part Segment)) (zeros then zv zw : List (Option ℕ)) (more : ℕ) → SpaceFits m.world zeros m.spaces p parts
     → u ≡ record m.world { maps = m.world.maps ++ replicate more None } → AreSameZeros zeros then → taken ≡ parts
@@ -112,8 +114,8 @@ cuts-done m p u v w parts taken a b zeros then zv zw more fits is alike same fir
     let numbers = numbers-after m p parts zeros then u more fits is alike in
     let begun = fits-then m p parts taken zeros then u fits numbers same in
     let once = fits-step p u v m.spaces taken a then zv (λ F. F) begun first in
-    let one = segment_rule.joined p m (record { world = u; spaces = m.spaces }) (record { world = v; spaces = t }) (λ F. F) (λ F. F) numbers.changes (first m.spaces begun).changes in
-    joined p m v w m.spaces a b zv zw (λ F. F) (record { changes = one; known = once.known }) (second t once)
+    let one = segment_rule.joined p m (record { world = u; spaces = m.spaces }) (record { world = v; spaces = t }) (λ F. F) (λ F. F) same-respects numbers.changes (first m.spaces begun).changes in
+    joined p m v w m.spaces a b zv zw (λ F. F) same-respects (record { changes = one; known = once.known }) (second t once)
 
 -- numbers that name no map hold none
 pub more-holders : (k : ℕ) (maps new : List (Option Map)) (n : ℕ) → new ≡ maps ++ replicate k None → holders_of new n ≡ holders_of maps n
@@ -290,7 +292,7 @@ module _ (m : Memory) (p : ℕ) (parts cut left : List (Part Segment)) (zeros th
   -- where nothing is held
   module _ (none : held ≡ None) where
     pub plain-cleared : ChangesSpace p m (record { world = x; spaces = finite.insert m.spaces p left }) after (λ F. without_pages F p first n)
-    plain-cleared = joined p m w x m.spaces cut left then after (λ F. without_pages F p first n) cuts
+    plain-cleared = joined p m w x m.spaces cut left then after (λ F. without_pages F p first n) (pages-respects p first n) cuts
         (subst (λ (h : Option ℕ). (s : Spaces) → SpaceFits (record w { maps = maps_held w.maps h }) then s p cut → ChangesSpace p (record { world = record w { maps = maps_held w.maps h }; spaces = s }) (record { world = x; spaces = finite.insert s p left }) after (λ F. without_pages F p first n)) none clears
         mid.spaces mid-fits)
 
@@ -369,7 +371,7 @@ module _ (m : Memory) (p : ℕ) (parts cut left : List (Part Segment)) (zeros th
       let here = get-insert_here m.spaces p left in
       let room = plain-room none in
       let may : MayCome l left y = record { place = has-place a; object = fit; zero = λ z k is. absurd (unnamed z (zero-named q.object z k is)); own = made; room = omega (arith, slots, room) } in
-      let all = changes-as p m l (with_part_come l p left y) (λ F. without_pages F p first n) (λ F. with_new_cells F p first n (segment_cell s)) (λ F. with_mapping F p (map_request q) first) c.changes (segment_rule.put l p left y c.changes.memory here may)
+      let all = changes-as p m l (with_part_come l p left y) (λ F. without_pages F p first n) (λ F. with_new_cells F p first n (segment_cell s)) (λ F. with_mapping F p (map_request q) first) (cells-respects p first n (segment_cell s)) c.changes (segment_rule.put l p left y c.changes.memory here may)
       (λ born notes e. cells-after-pages (flat_memory m born notes) p first n (segment_cell s) (λ i z names. absurd (unnamed z (zero-of q.object z names))) ∙ mapped-old m p q zeros there born notes own None old) in
       record {
         changes = subst (λ (t : Spaces). ChangesSegments p m (record { world = record x { anon = record x.anon { reserved = x.anon.reserved + slots_for_pages q.kind q.object n }; maps = maps_made x.maps own n }; spaces = t }) (λ F. with_mapping F p (map_request q) first)) (insert-twice m.spaces p left (with_new_part y left))
@@ -401,11 +403,12 @@ module _ (m : Memory) (p : ℕ) (parts cut left : List (Part Segment)) (zeros th
       let room = plain-room none in
       let unnamed = known-unnamed after l.spaces z c.known free in
       let may : MayMakeZero l left y z number = record { place = has-place a; shared = kind; object = refl; own = refl; shown = refl; unnamed = unnamed; unused = unused; room = omega (arith, slots, room) } in
-      let all = changes-as p m l (with_zero_part l p left y) (λ F. without_pages F p first n) (λ F. with_new_cells (with_zero_object F z n) p first n (segment_cell s)) (λ F. with_mapping F p (map_request q) first) c.changes
+      let all = changes-as p m l (with_zero_part l p left y) (λ F. without_pages F p first n) (λ F. with_new_cells (with_zero_object F z n) p first n (segment_cell s)) (λ F. with_mapping F p (map_request q) first)
+      (λ F G alike. cells-respects p first n (segment_cell s) (with_zero_object F z n) (with_zero_object G z n) (zero-respects z n F G alike)) c.changes
       (segment_rule.put_zero l p left y z number c.changes.memory here may)
       (λ born notes e.
       object-after-pages (flat_memory m born notes) p first n z n (segment_cell s) (λ i k names. inl (let d : Some z ≡ Some k = names in let f : k ≡ z = cc in f))
-      ∙ mapped-new m p q zeros there born notes z None (Some number) kind new (sym (segment_cells.number l born notes z c.changes.memory unnamed (known-below after l.spaces z c.known free)) ∙ ap new_number e)) in
+      ∙ mapped-new m p q zeros there born notes z None (Some number) kind new (sym (segment_cells.number l born notes z c.changes.memory unnamed (known-below after l.spaces z c.known free)) ∙ same-number (flat_memory l born notes) (without_pages (flat_memory m born notes) p first n) e)) in
       record {
         changes = subst (λ (t : Spaces). ChangesSegments p m (record { world = record x { anon = record x.anon { reserved = x.anon.reserved + slots_for_pages q.kind q.object n }; maps = maps_made x.maps (Some number) n }; spaces = t }) (λ F. with_mapping F p (map_request q) first))
             (insert-twice m.spaces p left (with_new_part y left))
@@ -429,7 +432,7 @@ module _ (m : Memory) (p : ℕ) (parts cut left : List (Part Segment)) (zeros th
       let zero = mid-zero z k some is g.0 g.1 in
       let comes = held-comes mid p g.0 z k x left y mid-fits.memory alive g.1 zero c.changes (has-place a) names refl made enough in
       let then : Memory = record { world = record x { anon = record x.anon { reserved = x.anon.reserved + slots_for_part y }; maps = maps_made x.maps own n }; spaces = finite.insert mid.spaces p (with_new_part y left) } in
-      let all = changes-as p m mid then (λ F. F) (λ F. with_new_cells (with_space F p (without_range (cells_of F p) first n)) p first n (segment_cell s)) (λ F. with_mapping F p (map_request q) first) cuts.changes comes
+      let all = changes-as p m mid then (λ F. F) (λ F. with_new_cells (with_space F p (without_range (cells_of F p) first n)) p first n (segment_cell s)) (λ F. with_mapping F p (map_request q) first) (range-respects p first n (segment_cell s)) cuts.changes comes
       (λ born notes e. mapped-old m p q zeros there born notes own (Some k) old) in
       record {
         changes = subst (λ (t : Spaces). ChangesSegments p m (record { world = record x { anon = record x.anon { reserved = x.anon.reserved + slots_for_pages q.kind q.object n }; maps = maps_made x.maps own n }; spaces = t }) (λ F. with_mapping F p (map_request q) first)) (insert-twice m.spaces p cut (with_new_part y left))

@@ -24,6 +24,7 @@ use Rattle.seg_vn.specs.flat_model.Refusals.{◌>>◌, Effect, check, or_refused
 use Rattle.seg_vn.specs.flat_model.Space.{is_in_range}
 use Rattle.seg_vn.specs.flat_model.Step.{IsDue, after_act, effect}
 use Rattle.seg_vn.specs.flat_model.Words.{page, pages_in}
+use Rattle.seg_vn.specs.flat_model.Shapes.{without_bytes}
 use Rattle.seg_vn.specs.vm_world.FlatMemory.{flat_memory}
 use Rattle.seg_vn.specs.vm_world.Plans.{IsRefusal, refusal_in}
 use Rattle.seg_vn.specs.vm_world.Segments.{Spaces, Spot, spot_at}
@@ -77,6 +78,7 @@ module _ (old new : World) (spaces : Spaces) (pending p a len : ℕ) (keeps : Ke
       notes = λ notes fits. fits;
       tells = λ notes fits. ((λ tell. tell), (λ tell. tell));
       flat = λ born notes fits tell whole. acts cleared born notes;
+      shaped = λ born notes. ap without_bytes (acts cleared born notes).1;
     };
     replaced = none-replaced old new;
     refusal = refusal;

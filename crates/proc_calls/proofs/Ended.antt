@@ -28,6 +28,7 @@ use Rattle.seg_vn.proofs.vm_world.KnownZeros.{known-left}
 use Rattle.seg_vn.proofs.vm_world.SegmentSteps.{segment_rule}
 use Rattle.seg_vn.proofs.vm_world.Spots.{spot-in}
 use Rattle.seg_vn.proofs.vm_world.Unnamed.{process-after-pages}
+use Rattle.seg_vn.proofs.vm_world.Shapes.{process-respects}
 use Rattle.seg_vn.proofs.seg_ops.Composed.{keeps-same}
 use Rattle.proc_calls.specs.Ends.{IsServedExit}
 use Rattle.seg_vn.specs.Clears.{ChangesSpace, SpaceFits, StartsAt}
@@ -92,7 +93,7 @@ ended old new zeros after spaces p parts left fits done pages =
     record {
       changes = segment_rule.same p m (without_space n p) (λ F. without_process (without_pages F p 1 (0x80000 - 1)) p) (λ F. without_process F p)
           (λ born notes. process-after-pages (flat_memory m born notes) p 1 (0x80000 - 1))
-          (segment_rule.joined p m n (without_space n p) (λ F. without_pages F p 1 (0x80000 - 1)) (λ F. without_process F p) done.changes (segment_rule.leave n p done.changes.memory empty));
+          (segment_rule.joined p m n (without_space n p) (λ F. without_pages F p 1 (0x80000 - 1)) (λ F. without_process F p) (process-respects p) done.changes (segment_rule.leave n p done.changes.memory empty));
       known = known-left n p after done.changes.memory empty done.known;
     }
 
@@ -117,6 +118,7 @@ exit-serves old new pending p fits done modified = record {
     notes = done.notes;
     tells = done.tells;
     flat = λ born notes nf tell whole. (refl, (done.flat born notes nf tell whole).0);
+    shaped = done.shaped;
   };
   replaced = λ name is. absurd (let z : false ≡ true = is in cc);
   refusal = λ born notes. refl;

@@ -17,6 +17,7 @@ use Rattle.seg_vn.specs.flat_model.Mapping.{cells_of}
 use Rattle.seg_vn.specs.flat_model.Processes.{with_child}
 use Rattle.seg_vn.specs.flat_model.Refusals.{Effect, check, done_effect, or_refused}
 use Rattle.seg_vn.specs.flat_model.Step.{effect}
+use Rattle.seg_vn.specs.flat_model.Shapes.{without_bytes}
 use Rattle.seg_vn.proofs.flat_model.Ranges.{get-insert_here}
 use Rattle.seg_vn.specs.vm_world.CountsFit.{is_number, slots_for_part}
 use Rattle.seg_vn.specs.vm_world.FlatMemory.{Memory, flat_memory}
@@ -35,6 +36,7 @@ use Rattle.seg_vn.proofs.vm_world.MoreNumbers.{past-none}
 use Rattle.seg_vn.proofs.vm_world.Reserves.{private-parts, reserved-memory}
 use Rattle.seg_vn.proofs.vm_world.SegmentCells.{segment_cells}
 use Rattle.seg_vn.proofs.vm_world.SegmentSteps.{segment_rule}
+use Rattle.seg_vn.proofs.vm_world.Shapes.{copied-respects}
 use Rattle.seg_vn.specs.Clears.{ChangesSpace}
 use Rattle.proc_calls.specs.Forks.{BearsChild, CountsForked}
 use Rattle.proc_calls.specs.Pieces.{AreFewHolders, HasFewHolders, IsForking}
@@ -62,7 +64,7 @@ module _ (m : Memory) (p child : ℕ) (parts : List (Part Segment)) (fits : Memo
       ap (outcome F) (ap (λ (n : ℕ). nat_le n (length m.world.anon.counts)) (total born notes) ∙ le-leb (m.world.anon.reserved + sum_by slots_for_part parts) (length m.world.anon.counts) le)
 
   -- A CHILD IS BORN by the entry
-  pub bears-child : (n : Memory) → m.world.anon.reserved + sum_by slots_for_part parts ≤ length m.world.anon.counts → BearsProcess child m n (λ F G. G ≡ with_child F p child) → BearsChild m n p child
+  pub bears-child : (n : Memory) → m.world.anon.reserved + sum_by slots_for_part parts ≤ length m.world.anon.counts → BearsProcess child m n (λ F. with_child F p child) → BearsChild m n p child
   bears-child n le b cleared = record {
     absent = b.absent;
     here = b.here;
@@ -74,6 +76,7 @@ module _ (m : Memory) (p child : ℕ) (parts : List (Part Segment)) (fits : Memo
     flat = λ born notes nf tell whole.
         let due = done-due le born notes in
         (ap (λ (x : Effect). x.reply) due, b.flat born notes nf tell whole ∙ sym (ap (λ (x : Effect). x.after) due));
+    shaped = λ born notes. b.shaped born notes ∙ sym (ap (λ (x : Effect). without_bytes x.after) (done-due le born notes));
   }
 
 -- FROM THE START, with numbers that were made free, TO THE BIRTH
@@ -98,13 +101,13 @@ module _ (m : Memory) (w : World) (zeros : List (Option ℕ)) (p child more : �
 
   pub forked : (kids final : List (Part Segment)) (n : World) (list : List (Option ℕ)) (end : ℕ) → kids ≡ [] → ((q : ℕ) → end ≤ q → part_at parts q ≡ None)
       → ChangesSpace child (record { world = w; spaces = finite.insert m.spaces child kids }) (record { world = n; spaces = finite.insert m.spaces child final }) list (λ F. with_cells_copied F p child 0 end)
-      → BearsProcess child m (record { world = n; spaces = finite.insert m.spaces child final }) (λ F G. G ≡ with_child F p child)
+      → BearsProcess child m (record { world = n; spaces = finite.insert m.spaces child final }) (λ F. with_child F p child)
   forked kids final n list end none past copies =
       let start : Memory = record { world = w; spaces = finite.insert m.spaces child [] } in
       let last : Memory = record { world = n; spaces = finite.insert m.spaces child final } in
       let changes = subst (λ (ks : List (Part Segment)). ChangesSegments child (record { world = w; spaces = finite.insert m.spaces child ks }) last (λ F. with_cells_copied F p child 0 end)) none copies.changes in
       fork_rule.forked m last p child parts end fits here absent past (ap is_some (get-insert_here m.spaces child final))
-      (segment_rule.joined child empty start last (λ F. F) (λ F. with_cells_copied F p child 0 end) numbers changes)
+      (segment_rule.joined child empty start last (λ F. F) (λ F. with_cells_copied F p child 0 end) (copied-respects p child 0 end) numbers changes)
 
 -- COUNTS are the same with more numbers
 owned-same : (maps : List (Option Map)) (more slot : ℕ) (ps : List (Part Segment)) → owned_in (maps ++ replicate more None) ps slot ≡ owned_in maps ps slot

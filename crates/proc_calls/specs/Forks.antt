@@ -10,7 +10,7 @@ use Rattle.seg_vn.specs.vm_types.declared.call.Reply.{Reply}
 use Rattle.seg_vn.specs.vm_types.declared.call.Reply.TheVariants.{Done, Refused}
 use Rattle.seg_vn.specs.flat_model.Step.{IsDue, after_act, effect}
 use Rattle.seg_vn.specs.vm_world.FlatMemory.{Memory, flat_memory}
-use Rattle.seg_vn.specs.vm_world.ForkSteps.{BearsProcess, times_owned}
+use Rattle.seg_vn.specs.vm_world.ForkSteps.{BringsProcess, times_owned}
 
 -- The entry of a Fork with this reply, which takes these tails.
 abbrev pub fork_entry : ℕ → ℕ → Reply → ℕ → Entry
@@ -18,7 +18,8 @@ fork_entry p child reply cleared = record { process = p; call = Fork child; repl
 
 -- A Fork that is done bears its child: whatever tails its entry takes, it is due, and flat memory is then what it makes of it.
 abbrev pub BearsChild : Memory → Memory → ℕ → ℕ → Type 0
-BearsChild old new p child = (cleared : ℕ) → BearsProcess child old new (λ F G. IsDue F (fork_entry p child Done cleared) × (G ≡ after_act F (fork_entry p child Done cleared)))
+BearsChild old new p child = (cleared : ℕ)
+    → BringsProcess child old new (λ F. after_act F (fork_entry p child Done cleared)) (λ F G. IsDue F (fork_entry p child Done cleared) × (G ≡ after_act F (fork_entry p child Done cleared)))
 
 -- It is done: its child is born, and no refusal was due, whatever is outside.
 pub record DoesFork (old new : Memory) (p child : ℕ) : Type 0 where

@@ -9,6 +9,7 @@ use Rattle.page_store.specs.declared.residence.Residence.TheVariants.{Absent}
 use Rattle.page_store.specs.Value.{value}
 use Rattle.page_store.proofs.QueryLemmas.{absent-is}
 use Rattle.vm_world.specs.flat_model.Flat.{Flat}
+use Rattle.vm_world.specs.flat_model.Shapes.{without_bytes}
 use Rattle.vm_world.specs.flat_model.Step.{tails_cleared}
 use Rattle.vm_world.specs.flat_model.Words.{Page}
 use Rattle.vm_world.specs.CallSteps.{ChangesMemory}
@@ -28,22 +29,28 @@ use Rattle.seg_ops.specs.Slots.{OwnsAlone, with_own_page}
 use Rattle.seg_ops.proofs.Fills.{blank-is}
 use Rattle.seg_ops.proofs.FillSteps.{absent-zeros}
 use Rattle.seg_ops.proofs.OwnPages.{flat-unheld, own-back}
+use Rattle.vm_world.proofs.flat_model.ShapeSteps.{tails-same}
+use Rattle.seg_ops.proofs.SlotShapes.{cleared-respects, own-alike, own-respects}
 use Rattle.seg_ops.proofs.StillSteps.{memory_of, value-is}
 use Rattle.std.specs.FinSet as set
 use Rattle.std.specs.Ordering.{nat_cmp}
 
-module _ (w : World) (spaces : Spaces) (p q : ℕ) (x : Spot) (bytes : Page) (here : spot_at spaces p q ≡ Some x) (own : (notes : Notes) → NotesFit w notes → AllTell w notes → (cell_of (contents_of w notes).place x).own ≡ Some bytes) where
+module _ (w : World) (spaces : Spaces) (p q : ℕ) (x : Spot) (bytes : Page) (here : spot_at spaces p q ≡ Some x) (own : (notes : Notes) → NotesFit w notes → AllTell w notes → (cell_of (contents_of w notes).place x).own ≡ Some bytes)
+    (held : (notes : Notes) → (y : Page) × ((cell_of (contents_of w notes).place x).own ≡ Some y)) where
+  back : (notes : Notes) (born : set.FinSet nat_cmp) (y : Page) → (cell_of (contents_of w notes).place x).own ≡ Some y → with_own_page (without_own_page (flat_memory (memory_of w spaces) born notes) p q) p q y ≡ flat_memory (memory_of w spaces) born notes
+  back notes born y is =
+      own-back (flat_memory (memory_of w spaces) born notes) p q (cell_of (contents_of w notes).place x) y
+      (cell-at (contents_of w notes).place spaces p q ∙ ap (option_map (cell_of (contents_of w notes).place)) here) is
+
   copied-back : (notes : Notes) (born : set.FinSet nat_cmp) → NotesFit w notes → AllTell w notes → with_own_page (without_own_page (flat_memory (memory_of w spaces) born notes) p q) p q bytes ≡ flat_memory (memory_of w spaces) born notes
-  copied-back notes born nf tell =
-      own-back (flat_memory (memory_of w spaces) born notes) p q (cell_of (contents_of w notes).place x) bytes
-      (cell-at (contents_of w notes).place spaces p q ∙ ap (option_map (cell_of (contents_of w notes).place)) here) (own notes nf tell)
+  copied-back notes born nf tell = back notes born bytes (own notes nf tell)
 
   -- THE PLACE IS EMPTIED, and then gets the bytes that it had.
-  pub changes-again : (mid new : World) (lost : ℕ → Bool) → ChangesMemory p (memory_of w spaces) (memory_of mid spaces) (λ F G. G ≡ without_own_page F p q)
-      → ChangesMemory p (memory_of mid spaces) (memory_of new spaces) (λ F G. G ≡ tails_cleared (with_own_page F p q bytes) lost)
-      → ChangesMemory p (memory_of w spaces) (memory_of new spaces) (λ F G. G ≡ tails_cleared F lost)
+  pub changes-again : (mid new : World) (lost : ℕ → Bool) → ChangesMemory p (memory_of w spaces) (memory_of mid spaces) (λ F. without_own_page F p q)
+      → ChangesMemory p (memory_of mid spaces) (memory_of new spaces) (λ F. tails_cleared (with_own_page F p q bytes) lost)
+      → ChangesMemory p (memory_of w spaces) (memory_of new spaces) (λ F. tails_cleared F lost)
   changes-again mid new lost a b =
-      let j = call_rule.joined p (memory_of w spaces) (memory_of mid spaces) (memory_of new spaces) (λ F. without_own_page F p q) (λ F. tails_cleared (with_own_page F p q bytes) lost) (λ born notes nf tell is. flat-unheld (flat_memory (memory_of w spaces) born notes) p q is) a b in
+      let j = call_rule.joined p (memory_of w spaces) (memory_of mid spaces) (memory_of new spaces) (λ F. without_own_page F p q) (λ F. tails_cleared (with_own_page F p q bytes) lost) (λ born notes nf tell is. flat-unheld (flat_memory (memory_of w spaces) born notes) p q is) (cleared-respects (λ F. with_own_page F p q bytes) lost (own-respects p q bytes)) a b in
       record {
         machine = j.machine;
         others = j.others;
@@ -51,6 +58,11 @@ module _ (w : World) (spaces : Spaces) (p q : ℕ) (x : Spot) (bytes : Page) (he
         notes = j.notes;
         tells = j.tells;
         flat = λ born notes nf tell is. j.flat born notes nf tell is ∙ ap (λ (G : Flat). tails_cleared G lost) (copied-back notes born nf tell);
+        shaped = λ born notes.
+            let F : Flat = flat_memory (memory_of w spaces) born notes in
+            let y : Page = (held notes).0 in
+            j.shaped born notes ∙ tails-same (with_own_page (without_own_page F p q) p q bytes) lost ∙ own-alike (without_own_page F p q) p q bytes y
+            ∙ ap without_bytes (back notes born y (held notes).1) ∙ sym (tails-same F lost);
       }
 
 module _ (w : World) (spaces : Spaces) (p q m i s : ℕ) (x : Spot) (f : MemoryFits (memory_of w spaces)) (holds : slot_in w.maps m i ≡ Some s) (owns : OwnsAlone spaces p q m i x) where
@@ -65,6 +77,10 @@ module _ (w : World) (spaces : Spaces) (p q m i s : ℕ) (x : Spot) (f : MemoryF
       ∙ ap (λ (j : ℕ). option_or (held m j) (own_without_slot x.0.object)) owns.place
       ∙ ap (λ (o : Option ℕ). option_or (option_map (λ t. page_value w notes (slot_name t)) o) (own_without_slot x.0.object)) holds
       ∙ ap (λ (b : Page). Some b) (value-is w notes (slot_name s) (slot-page w.files w.anon s slot-there))
+
+  -- so it has some, whatever disks tell
+  pub own-held : (notes : Notes) → (y : Page) × ((cell_of (contents_of w notes).place x).own ≡ Some y)
+  own-held notes = (value w.store notes (world_table w) (slot_name s), own-value notes)
 
   -- which are the bytes that it is known to have, or zeros where no frame holds it and it was never pushed
   pub own-bytes : (bytes : Page) → HasBytes w (slot_name s) bytes → (notes : Notes) → NotesFit w notes → AllTell w notes → (cell_of (contents_of w notes).place x).own ≡ Some bytes

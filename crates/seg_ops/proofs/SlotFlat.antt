@@ -19,7 +19,9 @@ use Rattle.vm_world.specs.vnode_files.Vnode.{VnodeSeen}
 use Rattle.vm_world.specs.flat_model.Access.{with_cell}
 use Rattle.vm_world.specs.flat_model.Flat.{Cell, File, Flat, IsFile, IsFlat}
 use Rattle.vm_world.specs.flat_model.Parts.{without_tail}
+use Rattle.vm_world.specs.flat_model.Shapes.{SameShape, without_bytes}
 use Rattle.vm_world.specs.flat_model.Step.{tails_cleared, files_cleared}
+use Rattle.vm_world.proofs.flat_model.ShapeSteps.{tails-same}
 use Rattle.vm_world.specs.flat_model.Words.{Page, IsPage, pages_in, zero_page}
 use Rattle.vm_world.specs.CallSteps.{ChangesMemory}
 use Rattle.vm_world.specs.FlatMemory.{Shape, cell_of, flat_shaped, flat_memory, shape_of, file_with_pages, files_with_pages, pages_from}
@@ -41,7 +43,18 @@ use Rattle.seg_ops.specs.Slots.{MakesPage, IsNewZero, OwnsAlone, with_own_page}
 use Rattle.seg_ops.proofs.SlotCells.{PutsHeld, flat-owned, flat-zeros}
 use Rattle.seg_ops.proofs.SlotMemory.{lengths-set, lt-used}
 use Rattle.seg_ops.proofs.SlotPlaces.{slot-here, slot-else}
+use Rattle.seg_ops.proofs.SlotShapes.{bare, bare-puts, bare-shape, no-bytes, owned-shape}
 use Rattle.seg_ops.proofs.StillSteps.{memory_of}
+
+-- the shape stays
+shape-made : (old new : World) (spaces : Spaces) (cut : PageName → Bool) (m i s : ℕ) (bytes : Page) → MakesPage old new spaces cut m i s bytes → shape_of (memory_of new spaces) ≡ shape_of (memory_of old spaces)
+shape-made old new spaces cut m i s bytes k = λ j. record {
+  slots = k.slot.slots j;
+  disks = (k.files j).disks;
+  files = map (λ (v : VnodeSeen). v.info) (k.files j).files;
+  lengths = lengths-set old.maps new.maps m i (Some s) k.slot.within k.slot.set j;
+  spaces = spaces;
+}
 
 module _ (old new : World) (spaces : Spaces) (cut : PageName → Bool) (m i s : ℕ) (bytes : Page) (fits : MemoryFits (memory_of old spaces)) (k : MakesPage old new spaces cut m i s bytes) (notes : Notes) (nf : NotesFit old notes) (tell : AllTell old notes) where
   -- the page of a slot that is in use stays
@@ -64,16 +77,6 @@ module _ (old new : World) (spaces : Spaces) (cut : PageName → Bool) (m i s : 
       by_slot : (a b : ℕ) (o : Option ℕ) → slot_in old.maps a b ≡ o → option_map (λ t. page_value new notes (slot_name t)) o ≡ option_map (λ t. page_value old notes (slot_name t)) o
       by_slot a b None is = refl
       by_slot a b (Some t) is = ap (λ (p : Page). Some p) (slot-stays t (held-used old.anon old.maps a b t fits.counts is))
-
-  -- the shape stays
-  shape-made : shape_of (memory_of new spaces) ≡ shape_of (memory_of old spaces)
-  shape-made = λ j. record {
-    slots = k.slot.slots j;
-    disks = (k.files j).disks;
-    files = map (λ (v : VnodeSeen). v.info) (k.files j).files;
-    lengths = lengths-set old.maps new.maps m i (Some s) k.slot.within k.slot.set j;
-    spaces = spaces;
-  }
 
   -- one file, its tail cleared or not
   one-file : (born : set.FinSet nat_cmp) → IsFlat (flat_memory (memory_of old spaces) born notes) → (f : ℕ) (info : FileInfo) → slice_get (shape_of (memory_of old spaces)).files f ≡ Some info
@@ -115,7 +118,7 @@ module _ (old new : World) (spaces : Spaces) (cut : PageName → Bool) (m i s : 
       let files : files_with_pages (file_contents (page_value new notes)) 0 shape.files ≡ files_cleared (tails_lost old cut) (files_with_pages (file_contents (page_value old notes)) 0 shape.files) =
       cut-files (file_contents (page_value old notes)) (file_contents (page_value new notes)) (tails_lost old cut) 0 shape.files (λ f info is. let z : f ≡ 0 + f = omega arith in
       subst (λ (j : ℕ). file_with_pages (file_contents (page_value new notes) j) info ≡ cond (tails_lost old cut f) (without_tail (file_with_pages (file_contents (page_value old notes) j) info)) (file_with_pages (file_contents (page_value old notes) j) info)) z (one-file born whole f info is)) in
-      ap (λ (h : Shape). flat_shaped h born (contents_by (page_value new notes) new.maps)) shape-made
+      ap (λ (h : Shape). flat_shaped h born (contents_by (page_value new notes) new.maps)) (shape-made old new spaces cut m i s bytes k)
       ∙ ap (λ (fs : List File). record (flat_shaped shape born (contents_by (page_value new notes) new.maps)) { files = fs }) files
 
   -- A PAGE OF ZEROS: nothing else changes.
@@ -136,20 +139,27 @@ module _ (old new : World) (spaces : Spaces) (cut : PageName → Bool) (m i s : 
 -- A CHANGE OF MEMORY, of any process.
 pub changes-by : (p : ℕ) (old new : World) (spaces : Spaces) (cut : PageName → Bool) (m i s : ℕ) (bytes : Page) (f : Flat → Flat) → MakesPage old new spaces cut m i s bytes
     → ((born : set.FinSet nat_cmp) (notes : Notes) → NotesFit old notes → AllTell old notes → IsFlat (flat_memory (memory_of old spaces) born notes) → flat_memory (memory_of new spaces) born notes ≡ f (flat_memory (memory_of old spaces) born notes))
-    → ChangesMemory p (memory_of old spaces) (memory_of new spaces) (λ F G. G ≡ f F)
-changes-by p old new spaces cut m i s bytes f k flat = record {
+    → ((born : set.FinSet nat_cmp) (notes : Notes) → SameShape (flat_memory (memory_of new spaces) born notes) (f (flat_memory (memory_of old spaces) born notes))) → ChangesMemory p (memory_of old spaces) (memory_of new spaces) (λ F. f F)
+changes-by p old new spaces cut m i s bytes f k flat shaped = record {
   machine = record { core = k.core; frames = k.frames; slots = k.slot.slots; disks = ap (λ (fs : FilesSeen). fs.disks) k.files; modes = ap (λ (fs : FilesSeen). map mode_of fs.files) k.files; bays = k.bays };
   others = λ q ne. refl;
   memory = k.memory;
   notes = k.notes;
   tells = k.tells;
   flat = flat;
+  shaped = shaped;
 }
 
 pub changes-zeros : (p : ℕ) (old new : World) (spaces : Spaces) (cut : PageName → Bool) (m i s : ℕ) → MemoryFits (memory_of old spaces) → MakesPage old new spaces cut m i s zeros → slot_in old.maps m i ≡ None → IsNewZero spaces m i
-    → ChangesMemory p (memory_of old spaces) (memory_of new spaces) (λ F G. G ≡ tails_cleared F (tails_lost old cut))
+    → ChangesMemory p (memory_of old spaces) (memory_of new spaces) (λ F. tails_cleared F (tails_lost old cut))
 changes-zeros p old new spaces cut m i s fits k empty new_zero = changes-by p old new spaces cut m i s zeros (λ F. tails_cleared F (tails_lost old cut)) k
     (λ born notes nf tell whole. flat-made_zeros old new spaces cut m i s zeros fits k notes nf tell born whole zeros-are empty new_zero)
+    (λ born notes.
+    let shape : Shape = shape_of (memory_of old spaces) in
+    bare-shape new spaces born notes
+    ∙ ap (λ (h : Shape). without_bytes (flat_shaped h born (record { file = no-bytes; place = bare new.maps }))) (shape-made old new spaces cut m i s zeros k)
+    ∙ ap without_bytes (flat-zeros shape born no-bytes (bare old.maps) (bare new.maps) m i (bare-puts old.maps new.maps m i (Some s) k.slot.within k.slot.set) (ap (option_map (λ slot. zero_page)) empty) new_zero)
+    ∙ sym (bare-shape old spaces born notes) ∙ sym (tails-same (flat_memory (memory_of old spaces) born notes) (tails_lost old cut)))
 
 -- the cell of a spot has the page as its own
 own-page-is : (old : World) (spaces : Spaces) (notes : Notes) (born : set.FinSet nat_cmp) (p q : ℕ) (x : Spot) (bytes : Page) → spot_at spaces p q ≡ Some x
@@ -159,6 +169,10 @@ own-page-is old spaces notes born p q x bytes here =
     ap (λ (o : Option Cell). option_map_or (λ c. with_cell F p q (record c { own = Some bytes })) o F) (cell-at (contents_of old notes).place spaces p q ∙ ap (option_map (cell_of (contents_of old notes).place)) here)
 
 pub changes-owned : (p q : ℕ) (x : Spot) (old new : World) (spaces : Spaces) (cut : PageName → Bool) (m i s : ℕ) (bytes : Page) → MemoryFits (memory_of old spaces) → MakesPage old new spaces cut m i s bytes → OwnsAlone spaces p q m i x
-    → ChangesMemory p (memory_of old spaces) (memory_of new spaces) (λ F G. G ≡ tails_cleared (with_own_page F p q bytes) (tails_lost old cut))
+    → ChangesMemory p (memory_of old spaces) (memory_of new spaces) (λ F. tails_cleared (with_own_page F p q bytes) (tails_lost old cut))
 changes-owned p q x old new spaces cut m i s bytes fits k owns = changes-by p old new spaces cut m i s bytes (λ F. tails_cleared (with_own_page F p q bytes) (tails_lost old cut)) k
     (λ born notes nf tell whole. flat-made_owned old new spaces cut m i s bytes fits k notes nf tell born p q x whole owns ∙ ap (λ (F : Flat). tails_cleared F (tails_lost old cut)) (sym (own-page-is old spaces notes born p q x bytes owns.here)))
+    (λ born notes.
+    owned-shape old new spaces p q m i x (Some s) (record (cell_of (contents_of old notes).place x) { own = Some bytes }) born notes (shape-made old new spaces cut m i s bytes k) (bare-puts old.maps new.maps m i (Some s) k.slot.within k.slot.set) owns (λ place. refl)
+    ∙ ap without_bytes (sym (own-page-is old spaces notes born p q x bytes owns.here))
+    ∙ sym (tails-same (with_own_page (flat_memory (memory_of old spaces) born notes) p q bytes) (tails_lost old cut)))

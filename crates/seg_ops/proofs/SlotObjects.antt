@@ -8,30 +8,33 @@ use Rattle.std.specs.FinSet as set
 use Rattle.std.proofs.lemmas.Bool.{cases_eq, cases_lt}
 use Rattle.std.proofs.lemmas.List.{ext_get_or, get_or-replicate, get_or-set_other, get_or_past, length-replicate}
 use Rattle.vm_world.specs.addr_space.Space.{Part}
-use Rattle.page_store.specs.Notes.{Notes}
-use Rattle.vm_world.specs.anon_map.Maps.{places_of}
+use Rattle.page_store.specs.page_hash.declared.PageName.{PageName}
+use Rattle.vm_world.specs.anon_map.Maps.{Map, places_of}
 use Rattle.vm_world.specs.vnode_files.Files.{FilesSeen}
 use Rattle.vm_world.specs.vnode_files.Vnode.{VnodeSeen}
+use Rattle.vm_world.specs.flat_model.Shapes.{without_bytes}
 use Rattle.vm_world.specs.flat_model.Words.{Page, zero_page}
 use Rattle.vm_world.specs.vm_types.declared.call.Object.{Object}
 use Rattle.vm_world.specs.CallSteps.{KeepsMachine, ChangesMemory}
 use Rattle.vm_world.specs.FlatMemory.{Shape, cell_of, own_without_slot, flat_shaped, flat_memory, map_with, shape_of, space_with, zero_maps, zero_pages}
 use Rattle.vm_world.specs.MemoryFits.{MemoryFits}
-use Rattle.vm_world.specs.NotesFit.{NotesFit}
 use Rattle.vm_world.specs.Pages.{page_value, contents_by, file_contents, place_contents}
 use Rattle.vm_world.specs.SegmentSteps.{with_zero_object}
 use Rattle.vm_world.specs.Segments.{Spot, Spaces, spot_at}
 use Rattle.vm_world.specs.State.{mode_of}
-use Rattle.vm_world.specs.World.{World, slot_in, slot_name, AllTell}
+use Rattle.vm_world.specs.World.{World, slot_in, slot_name}
 use Rattle.vm_world.specs.declared.segment.Segment.{Segment}
 use Rattle.vm_world.proofs.Changes.{machine-then}
 use Rattle.vm_world.proofs.ComingParts.{zeros-from}
 use Rattle.vm_world.proofs.Maps.{map_with-same, map_with-but_one}
+use Rattle.vm_world.proofs.Shapes.{zero-respects}
 use Rattle.seg_ops.specs.Empties.{EmptiesPlace, EmptiesPlaces, IsUnloadedZero, places_emptied}
 use Rattle.seg_ops.proofs.SlotCells.{cells-else, pages-same, spot-in}
 use Rattle.seg_ops.proofs.SlotMemory.{lengths-set}
 use Rattle.seg_ops.proofs.SlotOwners.{never-own}
+use Rattle.seg_ops.proofs.SlotPlaces.{slot-here, slot-else}
 use Rattle.seg_ops.proofs.SlotRanges.{length-emptied}
+use Rattle.seg_ops.proofs.SlotShapes.{bare, bare-shape, no-bytes}
 use Rattle.seg_ops.proofs.SlotUnheld.{places-left, files-left}
 use Rattle.seg_ops.proofs.StillSteps.{memory_of}
 
@@ -48,7 +51,8 @@ one-emptied old new spaces m i s k = record {
   notes = k.notes;
   tells = k.tells;
   pages = λ notes f index nf tell j. files-left old new spaces m i s k notes nf tell j f index;
-  none = λ notes j nf tell here. ap (place_contents (page_value new notes) new.maps m) here ∙ (places-left old new spaces m i s k notes nf tell).there;
+  none = λ j here. ap (slot_in new.maps m) here ∙ ap (λ (ps : List (Option Map)). slot_in ps m i) k.slot.set ∙ slot-here old.maps m i None k.slot.within;
+  kept = λ number j apart. ap (λ (ps : List (Option Map)). slot_in ps number j) k.slot.set ∙ slot-else old.maps m i number j None k.slot.within (λ e. apart e.0 e.1);
   others = λ notes number j nf tell apart. (places-left old new spaces m i s k notes nf tell).others number j (λ e. apart e.0 e.1);
 }
 
@@ -62,7 +66,8 @@ none-emptied w spaces m i f empty = record {
   notes = λ notes nf. nf;
   tells = λ notes nf. ((λ tell. tell), (λ tell. tell));
   pages = λ notes f index nf tell. refl;
-  none = λ notes j nf tell here. ap (place_contents (page_value w notes) w.maps m) here ∙ ap (option_map (λ t. page_value w notes (slot_name t))) empty;
+  none = λ j here. ap (slot_in w.maps m) here ∙ empty;
+  kept = λ number j apart. refl;
   others = λ notes number j nf tell apart. refl;
 }
 
@@ -76,7 +81,8 @@ nothing-emptied w spaces m f = record {
   notes = λ notes nf. nf;
   tells = λ notes nf. ((λ tell. tell), (λ tell. tell));
   pages = λ notes f index nf tell. refl;
-  none = λ notes i nf tell lt. absurd (omega (arith, lt));
+  none = λ i lt. absurd (omega (arith, lt));
+  kept = λ number i apart. refl;
   others = λ notes number i nf tell apart. refl;
 }
 
@@ -92,10 +98,8 @@ more-emptied u v w spaces m k a b = record {
     (λ tell. (a.tells notes nf).1 ((b.tells notes (a.notes notes nf)).1 tell)),
   );
   pages = λ notes f index nf tell. b.pages notes f index (a.notes notes nf) ((a.tells notes nf).0 tell) ∙ a.pages notes f index nf tell;
-  none = λ notes i nf tell lt. elim (cases_eq i k) [
-    | inl e ↦ b.none notes i (a.notes notes nf) ((a.tells notes nf).0 tell) e
-    | inr ne ↦ b.others notes m i (a.notes notes nf) ((a.tells notes nf).0 tell) (λ same e. ne e) ∙ a.none notes i nf tell (omega (arith, lt, ne))
-  ];
+  none = λ i lt. elim (cases_eq i k) [ inl e ↦ b.none i e | inr ne ↦ b.kept m i (λ same e. ne e) ∙ a.none i (omega (arith, lt, ne)) ];
+  kept = λ number i apart. b.kept number i (λ same e. apart same (omega (arith, e))) ∙ a.kept number i (λ same lt. apart same (omega (arith, lt)));
   others = λ notes number i nf tell apart.
       b.others notes number i (a.notes notes nf) ((a.tells notes nf).0 tell) (λ same e. apart same (omega (arith, e)))
       ∙ a.others notes number i nf tell (λ same lt. apart same (omega (arith, lt)));
@@ -119,32 +123,47 @@ module _ (s : Shape) (born : set.FinSet nat_cmp) (file : ℕ → ℕ → Page) (
       λ j. record (flat_shaped s born (record { file = file; place = old })) { spaces = spaces j; zeros = zeros j }
 
 -- A CHANGE OF MEMORY, of any process.
-pub changes-emptied : (p : ℕ) (old new : World) (spaces : Spaces) (z m n : ℕ) → MemoryFits (memory_of old spaces) → IsUnloadedZero old.hat.places spaces z m → length (places_of old.maps m) ≡ n → EmptiesPlaces old new spaces m (λ i. i < n)
-    → ChangesMemory p (memory_of old spaces) (memory_of new spaces) (λ F G. G ≡ with_zero_object F z n)
-changes-emptied p old new spaces z m n f shows size k = record {
-  machine = k.machine;
-  others = λ r ne. refl;
-  memory = k.memory;
-  notes = k.notes;
-  tells = k.tells;
-  flat = λ born notes nf tell whole.
-      let shape : Shape = shape_of (memory_of old spaces) in
-      let same : shape_of (memory_of new spaces) ≡ shape =
-      λ j. record { slots = k.machine.slots j; disks = (k.files j).disks; files = map (λ (v : VnodeSeen). v.info) (k.files j).files; lengths = λ number. k.lengths number j; spaces = spaces } in
-      let files : file_contents (page_value new notes) ≡ file_contents (page_value old notes) = λ j a index. k.pages notes a index nf tell j in
-      ap (λ (h : Shape). flat_shaped h born (contents_by (page_value new notes) new.maps)) same
-      ∙ ap (λ (file : ℕ → ℕ → Page). flat_shaped shape born (record { file = file; place = place_contents (page_value new notes) new.maps })) files
-      ∙ flat-emptied shape born (file_contents (page_value old notes)) (place_contents (page_value old notes) old.maps) (place_contents (page_value new notes) new.maps) z m shows.zero
+module _ (p : ℕ) (old new : World) (spaces : Spaces) (z m n : ℕ) (f : MemoryFits (memory_of old spaces)) (shows : IsUnloadedZero old.hat.places spaces z m) (size : length (places_of old.maps m) ≡ n) (k : EmptiesPlaces old new spaces m (λ i. i < n)) where
+  abbrev shape : Shape
+  shape = shape_of (memory_of old spaces)
+
+  same-shape : shape_of (memory_of new spaces) ≡ shape
+  same-shape = λ j. record { slots = k.machine.slots j; disks = (k.files j).disks; files = map (λ (v : VnodeSeen). v.info) (k.files j).files; lengths = λ number. k.lengths number j; spaces = spaces }
+
+  -- no place holds a slot
+  none-held : (i : ℕ) → slot_in new.maps m i ≡ None
+  none-held i = elim (cases_lt i n) [
+    | inl lt ↦ k.none i lt
+    | inr ge ↦ k.kept m i (λ at lt. omega (arith, ge, lt)) ∙ get_or_past (places_of old.maps m) i None (omega (arith, ge, size))
+  ]
+
+  -- what is left of flat memory, with whatever pages its files have
+  flat-left : (born : set.FinSet nat_cmp) (file : ℕ → ℕ → Page) (before after : PageName → Page) → ((number i : ℕ) → number ≢ m → place_contents after new.maps number i ≡ place_contents before old.maps number i)
+      → flat_shaped shape born (record { file = file; place = place_contents after new.maps }) ≡ with_zero_object (flat_shaped shape born (record { file = file; place = place_contents before old.maps })) z n
+  flat-left born file before after others =
+      flat-emptied shape born file (place_contents before old.maps) (place_contents after new.maps) z m shows.zero
       (λ y at. f.segments.apart y z m at shows.zero) (λ r q x there. never-own (memory_of old spaces) z m r q x f shows.zero there)
-      (λ i. elim (cases_lt i n) [ inl lt ↦ k.none notes i nf tell lt | inr ge ↦ past notes nf tell i ge ])
-      (λ number i ne. k.others notes number i nf tell (λ at lt. ne at))
-      ∙ ap (with_zero_object (flat_memory (memory_of old spaces) born notes) z) size;
-}
-  where
-    past : (notes : Notes) → NotesFit old notes → AllTell old notes → (i : ℕ) → n ≤ i → place_contents (page_value new notes) new.maps m i ≡ None
-    past notes nf tell i ge =
-        k.others notes m i nf tell (λ at lt. omega (arith, ge, lt))
-        ∙ ap (option_map (λ t. page_value old notes (slot_name t))) (get_or_past (places_of old.maps m) i None (omega (arith, ge, size)))
+      (λ i. ap (option_map (λ t. after (slot_name t))) (none-held i)) others
+      ∙ ap (with_zero_object (flat_shaped shape born (record { file = file; place = place_contents before old.maps })) z) size
+
+  pub changes-emptied : ChangesMemory p (memory_of old spaces) (memory_of new spaces) (λ F. with_zero_object F z n)
+  changes-emptied = record {
+    machine = k.machine;
+    others = λ r ne. refl;
+    memory = k.memory;
+    notes = k.notes;
+    tells = k.tells;
+    flat = λ born notes nf tell whole.
+        let files : file_contents (page_value new notes) ≡ file_contents (page_value old notes) = λ j a index. k.pages notes a index nf tell j in
+        ap (λ (h : Shape). flat_shaped h born (contents_by (page_value new notes) new.maps)) same-shape
+        ∙ ap (λ (file : ℕ → ℕ → Page). flat_shaped shape born (record { file = file; place = place_contents (page_value new notes) new.maps })) files
+        ∙ flat-left born (file_contents (page_value old notes)) (page_value old notes) (page_value new notes) (λ number i ne. k.others notes number i nf tell (λ at lt. ne at));
+    shaped = λ born notes.
+        bare-shape new spaces born notes
+        ∙ ap (λ (h : Shape). without_bytes (flat_shaped h born (record { file = no-bytes; place = bare new.maps }))) same-shape
+        ∙ ap without_bytes (flat-left born no-bytes (λ name. zero_page) (λ name. zero_page) (λ number i ne. ap (option_map (λ slot. zero_page)) (k.kept number i (λ at lt. ne at))))
+        ∙ zero-respects z n (flat_shaped shape born (record { file = no-bytes; place = bare old.maps })) (flat_memory (memory_of old spaces) born notes) (sym (bare-shape old spaces born notes));
+  }
 
 -- all places of a map
 pub all-emptied : (places : List (Option ℕ)) → places_emptied places 0 (length places) ≡ replicate (length places) None

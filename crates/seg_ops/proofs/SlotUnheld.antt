@@ -14,6 +14,7 @@ use Rattle.vm_world.specs.vnode_files.Files.{FilesSeen}
 use Rattle.vm_world.specs.vnode_files.Vnode.{VnodeSeen}
 use Rattle.vm_world.specs.flat_model.Access.{with_cell}
 use Rattle.vm_world.specs.flat_model.Flat.{Cell, Flat}
+use Rattle.vm_world.specs.flat_model.Shapes.{without_bytes}
 use Rattle.vm_world.specs.flat_model.Words.{Page}
 use Rattle.vm_world.specs.CallSteps.{ChangesMemory}
 use Rattle.vm_world.specs.FlatMemory.{Shape, cell_of, own_without_slot, flat_shaped, flat_memory, shape_of}
@@ -32,7 +33,18 @@ use Rattle.seg_ops.proofs.SlotCells.{PutsHeld, flat-owned}
 use Rattle.seg_ops.proofs.SlotMemory.{lengths-set, lt-used}
 use Rattle.seg_ops.proofs.SlotOwners.{owner-private}
 use Rattle.seg_ops.proofs.SlotPlaces.{slot-here, slot-else}
+use Rattle.seg_ops.proofs.SlotShapes.{bare-puts, owned-shape}
 use Rattle.seg_ops.proofs.StillSteps.{memory_of}
+
+-- the shape stays
+shape-left : (old new : World) (spaces : Spaces) (m i s : ℕ) → EmptiesPlace old new spaces m i s → shape_of (memory_of new spaces) ≡ shape_of (memory_of old spaces)
+shape-left old new spaces m i s k = λ j. record {
+  slots = k.slot.slots j;
+  disks = (k.files j).disks;
+  files = map (λ (v : VnodeSeen). v.info) (k.files j).files;
+  lengths = lengths-set old.maps new.maps m i None k.slot.within k.slot.set j;
+  spaces = spaces;
+}
 
 module _ (old new : World) (spaces : Spaces) (m i s : ℕ) (k : EmptiesPlace old new spaces m i s) (notes : Notes) (nf : NotesFit old notes) (tell : AllTell old notes) where
   -- what the places hold
@@ -48,16 +60,7 @@ module _ (old new : World) (spaces : Spaces) (m i s : ℕ) (k : EmptiesPlace old
       by_slot a b None is = refl
       by_slot a b (Some t) is = ap (λ (p : Page). Some p) (k.pages notes (slot_name t) nf tell (λ e. lt-used _ (held-used new.anon new.maps a b t k.slot.counts is)))
 
-  -- the shape stays, and so do the files' pages
-  shape-left : shape_of (memory_of new spaces) ≡ shape_of (memory_of old spaces)
-  shape-left = λ j. record {
-    slots = k.slot.slots j;
-    disks = (k.files j).disks;
-    files = map (λ (v : VnodeSeen). v.info) (k.files j).files;
-    lengths = lengths-set old.maps new.maps m i None k.slot.within k.slot.set j;
-    spaces = spaces;
-  }
-
+  -- the files' pages stay
   pub files-left : file_contents (page_value new notes) ≡ file_contents (page_value old notes)
   files-left = λ j f index. one f index j
     where
@@ -71,7 +74,7 @@ module _ (old new : World) (spaces : Spaces) (m i s : ℕ) (k : EmptiesPlace old
       → flat_memory (memory_of new spaces) born notes ≡ with_cell (flat_memory (memory_of old spaces) born notes) p q (record (cell_of (contents_of old notes).place x) { own = own_without_slot x.0.object })
   flat-left born p q x owns =
       let shape : Shape = shape_of (memory_of old spaces) in
-      ap (λ (h : Shape). flat_shaped h born (contents_by (page_value new notes) new.maps)) shape-left
+      ap (λ (h : Shape). flat_shaped h born (contents_by (page_value new notes) new.maps)) (shape-left old new spaces m i s k)
       ∙ ap (λ (file : ℕ → ℕ → Page). flat_shaped shape born (record { file = file; place = place_contents (page_value new notes) new.maps })) files-left
       ∙ flat-owned shape born (file_contents (page_value old notes)) (place_contents (page_value old notes) old.maps) (place_contents (page_value new notes) new.maps) p q m i x None places-left owns
 
@@ -86,7 +89,7 @@ unheld-is old spaces notes born p q x here private =
 
 -- A CHANGE OF MEMORY, of the process whose page it is.
 pub changes-left : (p q : ℕ) (x : Spot) (old new : World) (spaces : Spaces) (m i s : ℕ) → MemoryFits (memory_of old spaces) → EmptiesPlace old new spaces m i s → OwnsAlone spaces p q m i x
-    → ChangesMemory p (memory_of old spaces) (memory_of new spaces) (λ F G. G ≡ without_own_page F p q)
+    → ChangesMemory p (memory_of old spaces) (memory_of new spaces) (λ F. without_own_page F p q)
 changes-left p q x old new spaces m i s fits k owns = record {
   machine = record { core = k.core; frames = k.frames; slots = k.slot.slots; disks = ap (λ (fs : FilesSeen). fs.disks) k.files; modes = ap (λ (fs : FilesSeen). map mode_of fs.files) k.files; bays = k.bays };
   others = λ r ne. refl;
@@ -94,4 +97,7 @@ changes-left p q x old new spaces m i s fits k owns = record {
   notes = k.notes;
   tells = k.tells;
   flat = λ born notes nf tell whole. flat-left old new spaces m i s k notes nf tell born p q x owns ∙ sym (unheld-is old spaces notes born p q x owns.here (owner-private (memory_of old spaces) p q m i x fits owns));
+  shaped = λ born notes.
+      owned-shape old new spaces p q m i x None (record (cell_of (contents_of old notes).place x) { own = own_without_slot x.0.object }) born notes (shape-left old new spaces m i s k) (bare-puts old.maps new.maps m i None k.slot.within k.slot.set) owns (λ place. refl)
+      ∙ ap without_bytes (sym (unheld-is old spaces notes born p q x owns.here (owner-private (memory_of old spaces) p q m i x fits owns)));
 }

@@ -47,7 +47,7 @@ pub record EmptiesPlace (old new : World) (spaces : Spaces) (m i s : ℕ) : Type
       → page_value new notes name ≡ page_value old notes name
 
 -- Places of a map are emptied, which are told. Files, disks and translations stay, and so do the lengths of the maps; memory and the notes fit as before, and
--- disks tell where they told; and the pages of files, and what each other place holds, are as they were.
+-- disks tell where they told; each other place holds the slot that it held; and the pages of files, and what each other place holds, are as they were.
 pub record EmptiesPlaces (old new : World) (spaces : Spaces) (m : ℕ) (emptied : ℕ → Type 0) : Type 0 where
   pub machine : KeepsMachine old new
   pub files : new.files ≡ old.files
@@ -56,7 +56,8 @@ pub record EmptiesPlaces (old new : World) (spaces : Spaces) (m : ℕ) (emptied 
   pub notes : (notes : Notes) → NotesFit old notes → NotesFit new notes
   pub tells : (notes : Notes) → NotesFit old notes → AllTell old notes ↔ AllTell new notes
   pub pages : (notes : Notes) (f index : ℕ) → NotesFit old notes → AllTell old notes → file_contents (page_value new notes) f index ≡ file_contents (page_value old notes) f index
-  pub none : (notes : Notes) (i : ℕ) → NotesFit old notes → AllTell old notes → emptied i → place_contents (page_value new notes) new.maps m i ≡ None
+  pub none : (i : ℕ) → emptied i → slot_in new.maps m i ≡ None
+  pub kept : (number i : ℕ) → (number ≡ m → emptied i → ⊥) → slot_in new.maps number i ≡ slot_in old.maps number i
   pub others : (notes : Notes) (number i : ℕ) → NotesFit old notes → AllTell old notes → (number ≡ m → emptied i → ⊥)
       → place_contents (page_value new notes) new.maps number i ≡ place_contents (page_value old notes) old.maps number i
 

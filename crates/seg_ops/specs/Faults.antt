@@ -79,7 +79,7 @@ FaultModifies w x answer name = ⊥
 pub record ServesFault (old new : Memory) (pending more p q : ℕ) (x : Spot) (write : Bool) (answer : Result Fault Wants) : Type 0 where
   pub mid : World
   pub first : TakesFrames old mid pending more
-  pub acts : ChangesMemory p (record old { world = mid }) new (λ F G. G ≡ after_fault answer write F p q)
+  pub acts : ChangesMemory p (record old { world = mid }) new (λ F. after_fault answer write F p q)
   pub ends : EndsThere answer mid new.world
   pub slots : SlotsAfter old.world new.world x write answer
   pub past : is_past answer ≡ not (shows_page old.world x)

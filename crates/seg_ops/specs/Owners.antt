@@ -22,7 +22,7 @@ IsOwned w map place = (spaces : Spaces) × (p : ℕ) × (q : ℕ) × (x : Spot) 
 -- Whatever page does, flat memory becomes this.
 abbrev pub OwnerBecomes : {D : Type 0} → rust.World D → rust.World D → ℕ → ℕ → (ℕ → ℕ → Flat → Flat) → Type 0
 OwnerBecomes old new map place f = (spaces : Spaces) (p q : ℕ) (x : Spot) → Fits old spaces → OwnsAlone spaces p q map place x → translation_at old.hat.places p q ≡ None
-    → ChangesMemory p (memory old spaces) (memory new spaces) (λ F G. G ≡ f p q F)
+    → ChangesMemory p (memory old spaces) (memory new spaces) (λ F. f p q F)
 
 -- Its cell loses its own page.
 abbrev pub OwnerLoses : {D : Type 0} → rust.World D → rust.World D → ℕ → ℕ → Type 0

@@ -42,8 +42,8 @@ pub fn make_zero<D: Disk>(world: &mut World<D>, map: u32, place: u32) -> u32
     // Flat memory loses that tail, and nothing else changes: the place showed zeros before.
     ensures changes { (spaces : Spaces) (p : ℕ) → Fits world.old spaces
         → IsNewZero spaces map place
-        → ChangesMemory p (memory world.old spaces) (memory world.new spaces) (λ F G. G ≡
-        next_cleared world.old F) }
+        → ChangesMemory p (memory world.old spaces) (memory world.new spaces)
+        (λ F. next_cleared world.old F) }
     // Where the place is a private page's, without a translation, that gets a page of zeros of its own.
     ensures owned { OwnerBecomes world.old world.new map place
         (λ p q F. next_cleared world.old (with_own_page F p q zeros)) }

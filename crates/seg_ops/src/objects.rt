@@ -35,7 +35,7 @@ pub fn drop_object<D: Disk>(world: &mut World<D>, map: u32)
     ensures changes { (spaces : Spaces) (p z : ℕ) → Fits world.old spaces
         → IsUnloadedZero world.old.hat.places spaces z map
         → ChangesMemory p (memory world.old spaces) (memory world.new spaces)
-        (λ F G. G ≡ with_zero_object F z (length (places_of world.old.maps map))) }
+        (λ F. with_zero_object F z (length (places_of world.old.maps map))) }
 {
     for place in 0..world.maps.pages(map) {
         empty_place(world, map, place);

@@ -69,7 +69,7 @@ pub fn drop_places<D: Disk>(world: &mut World<D>, map: u32, from: u32, end: u32)
     ensures changes { (spaces : Spaces) (p first : ℕ) → Fits world.old spaces
         → OwnsPlaces world.old.hat.places spaces p first map from (end - from)
         → ChangesMemory p (memory world.old spaces) (memory world.new spaces)
-        (λ F G. G ≡ without_own_pages F p first (end - from)) }
+        (λ F. without_own_pages F p first (end - from)) }
 {
     for place in from..end {
         empty_place(world, map, place);

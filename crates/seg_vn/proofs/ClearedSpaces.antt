@@ -28,6 +28,7 @@ use Rattle.seg_ops.proofs.vm_world.SegmentSteps.{segment_rule}
 use Rattle.seg_ops.proofs.vm_world.ShownZeros.{zeros-are}
 use Rattle.seg_ops.proofs.vm_world.SweptFlat.{space-is, cell-is}
 use Rattle.seg_ops.proofs.vm_world.Unnamed.{pages-joined}
+use Rattle.seg_ops.proofs.vm_world.Shapes.{pages-respects}
 use Rattle.seg_ops.proofs.Composed.{keeps-same}
 use Rattle.seg_vn.specs.Clears.{ChangesSpace, SpaceFits, StartsAt}
 use Rattle.seg_vn.specs.Cuts.{IsPartAt}
@@ -122,7 +123,7 @@ module _ (w : World) (zeros : List (Option ℕ)) (spaces : Spaces) (p : ℕ) (ol
       let after : Memory = record { world = new; spaces = finite.insert (finite.insert spaces p now) p (without_part b now) } in
       subst (λ (s : Spaces). ChangesSpace p m (record { world = new; spaces = s }) two (λ F. without_pages F p c l)) (insert-twice spaces p now (without_part b now) ∙ ap (finite.insert spaces p) (sym is)) (record {
         changes = segment_rule.same p m after (λ F. without_pages (without_pages F p a n) p b k) (λ F. without_pages F p c l) (λ born notes. both-flat born notes a n b k c l same)
-            (segment_rule.joined p m before after (λ F. without_pages F p a n) (λ F. without_pages F p b k) done.changes goes.changes);
+            (segment_rule.joined p m before after (λ F. without_pages F p a n) (λ F. without_pages F p b k) (pages-respects p b k) done.changes goes.changes);
         known = goes.known;
       })
 

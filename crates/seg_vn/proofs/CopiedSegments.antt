@@ -30,6 +30,7 @@ use Rattle.seg_ops.proofs.vm_world.KnownZeros.{known-same}
 use Rattle.seg_ops.proofs.vm_world.MapChanges.{held-holders, held-places}
 use Rattle.seg_ops.proofs.vm_world.SegmentSteps.{segment_rule}
 use Rattle.seg_ops.proofs.vm_world.Spots.{IsSpotOf, spot-part}
+use Rattle.seg_ops.proofs.vm_world.Shapes.{copied-respects}
 use Rattle.seg_ops.proofs.SlotOwners.{one-owner}
 use Rattle.seg_vn.specs.Cuts.{IsPartAt}
 use Rattle.seg_vn.specs.Clears.{ChangesSpace}
@@ -157,7 +158,7 @@ copy-changes w new spaces p child first number s copy hat counts c k zeros knows
     let first_step = segment_rule.keeps child w v.world spaces c.memory keeps in
     let after = with_part_copied v child k.kids x number counts in
     let copied = fork_rule.copy v p child c.parts k.kids x number counts first_step.memory may in
-    let both = segment_rule.joined child m v after (λ F. F) (λ F. with_cells_copied F p child first s.pages) first_step copied in
+    let both = segment_rule.joined child m v after (λ F. F) (λ F. with_cells_copied F p child first s.pages) (copied-respects p child first s.pages) first_step copied in
     let known = known-same zeros spaces after.spaces (fork_rule.zeros v p child c.parts k.kids x number counts first_step.memory may) knows in
     let same : after ≡ record { world = new; spaces = finite.insert spaces child (with_new_part (part first s.pages copy) k.kids) } = λ i. record { world = sym is i; spaces = finite.insert spaces child (with_new_part (part first s.pages (sym made i)) k.kids) } in
     subst (λ (n : Memory). ChangesSpace child m n zeros (λ F. with_cells_copied F p child first s.pages)) same (record { changes = both; known = known })

@@ -38,6 +38,7 @@ use Rattle.seg_ops.proofs.vm_world.CallSteps.{call_rule}
 use Rattle.seg_ops.proofs.vm_world.FlatWhole.{some-inj}
 use Rattle.seg_ops.proofs.vm_world.FrameRule.{exists-page}
 use Rattle.seg_ops.proofs.vm_world.StoredPages.{zeros-are}
+use Rattle.seg_ops.proofs.vm_world.Shapes.{same-respects}
 use Rattle.seg_ops.specs.Copies.{HasBytes, IsKnownLater, bytes_kept}
 use Rattle.seg_ops.specs.OwnPages.{with_own_shown}
 use Rattle.seg_ops.specs.Slots.{OwnsAlone}
@@ -112,13 +113,13 @@ takes-more old freed spaces a b c t second none files = record { cut = t.cut; st
 
 -- THE CELL GOT ITS PAGE, and the translation of that is loaded.
 pub serves-after : (old freed made new : World) (spaces : Spaces) (p q : ℕ) (x : Spot) (pending more frame : ℕ) (first : TakesFrames (memory_of old spaces) freed pending more) → AreReplaced old new first.cut → IsTrue (shows_page old x)
-    → ChangesMemory p (memory_of freed spaces) (memory_of made spaces) (λ F G. G ≡ with_own_shown F p q) → KeepsPages made new spaces → translation_at new.hat.places p q ≡ Some (fresh_translation p q frame true) → SlotsAfter old new x true (Ok fault.Loaded)
+    → ChangesMemory p (memory_of freed spaces) (memory_of made spaces) (λ F. with_own_shown F p q) → KeepsPages made new spaces → translation_at new.hat.places p q ≡ Some (fresh_translation p q frame true) → SlotsAfter old new x true (Ok fault.Loaded)
     → ModifiesOnly (FaultModifies new x (Ok fault.Loaded)) old new → ServesFault (memory_of old spaces) (memory_of new spaces) pending more p q x true (Ok fault.Loaded)
 serves-after old freed made new spaces p q x pending more frame first replaced some makes shows loaded slots modified = record {
   mid = freed;
   first = first;
   acts = call_rule.joined p (memory_of freed spaces) (memory_of made spaces) (memory_of new spaces) (λ F. with_own_shown F p q) (λ F. F)
-      (λ born notes nf tell whole. own_shown_law.whole (flat_memory (memory_of freed spaces) born notes) p q whole) makes (changes-kept p made new spaces makes.memory shows);
+      (λ born notes nf tell whole. own_shown_law.whole (flat_memory (memory_of freed spaces) born notes) p q whole) same-respects makes (changes-kept p made new spaces makes.memory shows);
   ends = tt;
   slots = slots;
   past = sym (ap not some);
@@ -252,14 +253,19 @@ module _ (w v : World) (spaces : Spaces) (p q m i : ℕ) (x : Spot) (slot : Opti
   has-is none = sym (ap (λ (o : Option ℕ). is_some o || object_has v x.0.shown (x.0.index + x.1) x.0.object) (own-empty none)) ∙ shows-same w v x maps files ∙ c.some
 
   pub cell-shows : (name : PageName) (bytes : Page) → shown ≡ Some name → HasBytes v name bytes → CellShows v spaces x slot bytes
-  cell-shows name bytes is has = λ none born notes nf tell.
-      object-shows v spaces p q x fits c.here born notes name (own-none v spaces p q x fits c.here born notes (own-empty none) (c.bare none)) (name-is none ∙ is) (has-is none)
-      ∙ ap (λ (b : Page). Some b) (has notes nf tell)
+  cell-shows name bytes is has = λ none born notes. (
+    page_value v notes name,
+    object-shows v spaces p q x fits c.here born notes name (own-none v spaces p q x fits c.here born notes (own-empty none) (c.bare none)) (name-is none ∙ is) (has-is none),
+    λ nf tell. has notes nf tell,
+  )
 
   pub cell-zeros : shown ≡ None → CellShows v spaces x slot zeros
-  cell-zeros is = λ none born notes nf tell.
-      object-zeros v spaces p q x fits c.here born notes (own-none v spaces p q x fits c.here born notes (own-empty none) (c.bare none)) (c.bare none) (name-is none ∙ is) (has-is none)
-      ∙ ap (λ (b : Page). Some b) (sym zeros-are)
+  cell-zeros is = λ none born notes. (
+    zeros,
+    object-zeros v spaces p q x fits c.here born notes (own-none v spaces p q x fits c.here born notes (own-empty none) (c.bare none)) (c.bare none) (name-is none ∙ is) (has-is none)
+        ∙ ap (λ (b : Page). Some b) (sym zeros-are),
+    λ nf tell. refl,
+  )
 
 -- the value of a page that no frame holds and that was never pushed
 zero-value : (v : World) (spaces : Spaces) (name : PageName) → MemoryFits (memory_of v spaces) → residence v.store name ≡ Absent → IsTrue (is_unpushed v.files v.anon name) → IsTrue (page_exists v.files v.anon name) → HasBytes v name zeros

@@ -21,6 +21,7 @@ use Rattle.seg_ops.proofs.vm_world.KeptMaps.{own-there, shown-there, same-there,
 use Rattle.seg_ops.proofs.vm_world.MapChanges.{cut-else, cut-lower, held-holders, held-places}
 use Rattle.seg_ops.proofs.vm_world.MoreNumbers.{past-none}
 use Rattle.seg_ops.proofs.vm_world.SegmentSteps.{segment_rule}
+use Rattle.seg_ops.proofs.vm_world.Shapes.{same-respects}
 use Rattle.seg_vn.specs.Cuts.{IsCutPart, MayBeCut}
 
 -- A part that fits may be cut, where a holder more of the map that it shows can be counted
@@ -111,7 +112,7 @@ module _ (w : World) (spaces : Spaces) (p page before : ℕ) (s : Segment) (c : 
     still-cut = record { parts = c.parts; part = c.part; memory = numbers.memory; here = c.here; found = c.found; lies = c.lies; place = c.place; piece = c.piece }
 
     pub numbers-then : (new : Memory) → ChangesSegments p mid new (λ F. F) → ChangesSegments p m new (λ F. F)
-    numbers-then new cut = segment_rule.joined p m mid new (λ F. F) (λ F. F) numbers cut
+    numbers-then new cut = segment_rule.joined p m mid new (λ F. F) (λ F. F) same-respects numbers cut
 
   -- THE CUT
   pub cut-changes : (number : ℕ) → (IsSome s.own → IsUnused w.maps number) → (new : World) (lower upper : Segment) → new ≡ record w { maps = maps_held (maps_cut w.maps s.own number before) s.shown } → lower ≡ first_pages before s

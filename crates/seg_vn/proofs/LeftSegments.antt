@@ -32,6 +32,7 @@ use Rattle.seg_ops.proofs.vm_world.KnownZeros.{known-gone, known-last}
 use Rattle.seg_ops.proofs.vm_world.MapChanges.{released-sum, freed-length}
 use Rattle.seg_ops.proofs.vm_world.PartSums.{all_parts, part-le, sum-segments}
 use Rattle.seg_ops.proofs.vm_world.SegmentSteps.{segment_rule}
+use Rattle.seg_ops.proofs.vm_world.Shapes.{pages-respects}
 use Rattle.seg_ops.specs.Empties.{OwnsPlaces, IsUnloadedZero, places_emptied}
 use Rattle.seg_ops.specs.OwnPages.{without_own_pages}
 use Rattle.seg_ops.specs.vm_world.Words.{KeepsPages}
@@ -63,7 +64,7 @@ all-emptied places n size i = elim (cases_lt i n) [
 pub loses-none : (p first n : ℕ) (m : Memory) → MemoryFits m → LosesWithPages p first n m m
 loses-none p first n m fits = record { f = λ F. F; changes = segment_rule.keeps p m.world m.world m.spaces fits (keeps-same m.world m.spaces fits); goes = λ born notes. refl }
 
-pub loses-own : (p first n : ℕ) (u v : Memory) → ChangesMemory p u v (λ F G. G ≡ without_own_pages F p first n) → LosesWithPages p first n u v
+pub loses-own : (p first n : ℕ) (u v : Memory) → ChangesMemory p u v (λ F. without_own_pages F p first n) → LosesWithPages p first n u v
 loses-own p first n u v done = record {
   f = λ F. without_own_pages F p first n;
   changes = record {
@@ -75,6 +76,7 @@ loses-own p first n u v done = record {
     flat = λ born notes nf tell whole.
         let e = done.flat born notes nf tell whole in
         (e, subst IsFlat (sym e) (own_pages_law.lost (flat_memory u born notes) p first n whole));
+    shaped = done.shaped;
   };
   goes = λ born notes. ap without_unnamed (own_pages_law.removed (flat_memory u born notes) p first n);
 }
@@ -83,7 +85,7 @@ loses-own p first n u v done = record {
 pub lose-then : (p first n : ℕ) (u v w : Memory) → LosesWithPages p first n u v → ChangesSegments p v w (λ F. without_pages F p first n) → ChangesSegments p u w (λ F. without_pages F p first n)
 lose-then p first n u v w lost gone =
     segment_rule.same p u w (λ F. without_pages (lost.f F) p first n) (λ F. without_pages F p first n) lost.goes
-    (segment_rule.joined p u v w lost.f (λ F. without_pages F p first n) lost.changes gone)
+    (segment_rule.joined p u v w lost.f (λ F. without_pages F p first n) (pages-respects p first n) lost.changes gone)
 
 -- it is such a part wherever memory fits these segments
 abbrev pub still-part : (w new : World) (spaces : Spaces) (p first : ℕ) (s : Segment) → IsPartAt w spaces p first s → MemoryFits (record { world = new; spaces = spaces }) → IsPartAt new spaces p first s
@@ -166,7 +168,7 @@ module _ (w : World) (spaces : Spaces) (p first : ℕ) (s : Segment) (c : IsPart
     pub shown-unloaded : AreUnloaded w.hat.places p first s.pages → IsUnloadedZero w.hat.places spaces z map
     shown-unloaded none = object-unloaded m p first c.parts c.part c.memory c.here c.starts z map (its-object z names) (its-shown map is) held (its-unloaded none)
 
-    pub loses-shown : (size : ℕ) (new : World) → ChangesMemory p m (record { world = new; spaces = spaces }) (λ F G. G ≡ with_zero_object F z size) → LosesWithPages p first s.pages m (record { world = new; spaces = spaces })
+    pub loses-shown : (size : ℕ) (new : World) → ChangesMemory p m (record { world = new; spaces = spaces }) (λ F. with_zero_object F z size) → LosesWithPages p first s.pages m (record { world = new; spaces = spaces })
     loses-shown size new done = record {
       f = λ F. with_zero_object F z size;
       changes = record {
@@ -178,6 +180,7 @@ module _ (w : World) (spaces : Spaces) (p first : ℕ) (s : Segment) (c : IsPart
         flat = λ born notes nf tell whole.
             let e = done.flat born notes nf tell whole in
             (e, subst IsFlat (sym e) (flat-new-zero (flat_memory m born notes) z size whole));
+        shaped = done.shaped;
       };
       goes = λ born notes.
           subst (λ (k : ℕ). without_pages (with_zero_object (flat_memory m born notes) z size) p k s.pages ≡ without_pages (flat_memory m born notes) p k s.pages) begin
@@ -303,4 +306,4 @@ part-left w w1 w2 w3 new spaces p first s t fits keeps e own shown g is =
     let f : Flat → Flat = λ F. without_pages F p first t.pages in
     subst (λ (u : Segment). ChangesSegments p m0 (record { world = new; spaces = gone }) (λ F. without_pages F p first u.pages)) (sym e)
     (subst (λ (v : World). ChangesSegments p m0 (record { world = v; spaces = gone }) f) (sym is)
-    (segment_rule.joined p m0 m1 m4 (λ F. F) f (segment_rule.keeps p w w1 spaces fits keeps) (lose-then p first t.pages m1 m2 m4 own (lose-then p first t.pages m2 m3 m4 shown (part-goes w3 spaces p first t g)))))
+    (segment_rule.joined p m0 m1 m4 (λ F. F) f (pages-respects p first t.pages) (segment_rule.keeps p w w1 spaces fits keeps) (lose-then p first t.pages m1 m2 m4 own (lose-then p first t.pages m2 m3 m4 shown (part-goes w3 spaces p first t g)))))

@@ -1,7 +1,7 @@
 -- Translations that let no more than a protection, and a segment that has it.
-use Rattle.std.proofs.lemmas.Bool.{or_right as or-right, or_left as or-left}
-use Rattle.std.proofs.Common.{◌≡◌, ℕ, ◌+◌, ◌-◌, ◌<◌, ◌≤◌, Bool, true, false, List, Option, Some, None, refl, sym, ap, ◌∙◌, inl, inr, subst, arith, slice_index_or}
-use Rattle.std.specs.Prelude.{◌||◌, IsTrue}
+use Rattle.std.proofs.lemmas.Bool.{or_left as or-left}
+use Rattle.std.proofs.Common.{◌≡◌, ℕ, ◌+◌, ◌-◌, ◌<◌, ◌≤◌, true, false, List, Option, Some, None, refl, sym, ap, ◌∙◌, subst, slice_index_or}
+use Rattle.std.specs.Prelude.{◌||◌}
 use Rattle.std.specs.FinMap as finite
 use Rattle.seg_ops.specs.vm_types.declared.prot.Prot.{Prot}
 use Rattle.seg_ops.specs.vm_types.Prot.{can_read, can_write, is_within}
@@ -11,7 +11,6 @@ use Rattle.seg_ops.proofs.addr_space.PartLists.{begins-first}
 use Rattle.seg_ops.specs.hat_layer.Pool.{translation_at}
 use Rattle.seg_ops.specs.hat_layer.declared.translation.Translation.{Translation}
 use Rattle.seg_ops.specs.vm_world.FlatMemory.{Memory}
-use Rattle.seg_ops.specs.vm_world.MemoryFits.{MemoryFits}
 use Rattle.seg_ops.specs.vm_world.ProtectSteps.{MayHaveProt, with_part_prot, with_segment_prot, with_range_prot}
 use Rattle.seg_ops.specs.vm_world.Segments.{Spaces}
 use Rattle.seg_ops.specs.vm_world.SpaceSteps.{AreUnloaded}
@@ -22,6 +21,7 @@ use Rattle.seg_ops.proofs.vm_world.Loaded.{loaded-at}
 use Rattle.seg_ops.proofs.vm_world.ProtectedParts.{part-protected, zeros-now}
 use Rattle.seg_ops.proofs.vm_world.KnownZeros.{known-same}
 use Rattle.seg_ops.proofs.vm_world.SegmentSteps.{segment_rule}
+use Rattle.seg_ops.proofs.vm_world.Shapes.{prots-respects}
 use Rattle.seg_ops.specs.vm_world.Words.{KeepsPages}
 use Rattle.seg_ops.specs.Writers.{HasNoWriter}
 use Rattle.seg_vn.specs.Clears.{ChangesSpace}
@@ -61,6 +61,6 @@ prot-changes w v zeros spaces p first s now prot c within keeps limited is knows
     } in
     let found = c.starts ∙ ap (λ (y : Part Segment). Some y) whole in
     let done = part-protected n p c.parts x prot first_step.memory c.here found may in
-    let both = segment_rule.joined p m n (with_part_prot n p c.parts x prot) (λ F. F) (λ F. with_range_prot F p first s.pages prot) first_step done in
+    let both = segment_rule.joined p m n (with_part_prot n p c.parts x prot) (λ F. F) (λ F. with_range_prot F p first s.pages prot) (prots-respects p first s.pages prot) first_step done in
     let known = known-same zeros spaces (finite.insert spaces p (with_new_piece first (with_segment_prot prot s) c.parts)) (zeros-now n p c.parts x prot first_step.memory c.here found may) knows in
     subst (λ (t : Segment). ChangesSpace p m (record { world = v; spaces = finite.insert spaces p (with_new_piece first t c.parts) }) zeros (λ F. with_range_prot F p first s.pages prot)) (sym is) (record { changes = both; known = known })

@@ -12,21 +12,22 @@ use Rattle.seg_ops.specs.hat_layer.Pool.{translation_at, fresh_translation}
 use Rattle.seg_ops.specs.vm_types.declared.call.Call.{Call}
 use Rattle.seg_ops.specs.vm_types.declared.call.Call.TheVariants.{Load, Store, Map, Unmap, Protect, Sync, Read, Write, Truncate, Fork, Exit}
 use Rattle.seg_ops.specs.flat_model.Flat.{File, Flat, IsFlat}
-use Rattle.seg_ops.specs.flat_model.Step.{files_cleared, tails_cleared}
+use Rattle.seg_ops.specs.flat_model.Step.{tails_cleared}
+use Rattle.seg_ops.specs.flat_model.Shapes.{without_bytes}
 use Rattle.seg_ops.specs.vm_world.CallSteps.{ChangesMemory}
 use Rattle.seg_ops.specs.vm_world.FlatMemory.{Memory, flat_memory}
 use Rattle.seg_ops.specs.vm_world.MemoryFits.{MemoryFits}
-use Rattle.seg_ops.specs.vm_world.NotesFit.{NotesFit}
 use Rattle.seg_ops.specs.vm_world.Segments.{Spot, Spaces}
 use Rattle.seg_ops.specs.vm_world.Serving.{TakesFrames, LosesFrame, AreReplaced, ModifiesOnly}
 use Rattle.seg_ops.specs.vm_world.StateSteps.{PendsTails}
 use Rattle.seg_ops.specs.vm_world.Wants.{accessed_page, shows_page}
 use Rattle.seg_ops.specs.vm_world.TranslationsFit.{MayWriteInPlace}
-use Rattle.seg_ops.specs.vm_world.World.{World, AllTell}
+use Rattle.seg_ops.specs.vm_world.World.{World}
 use Rattle.seg_ops.specs.vm_world.WorldSteps.{WorldStep, stays, tails_lost}
 use Rattle.seg_ops.proofs.vm_world.Callers.{same-modes}
 use Rattle.seg_ops.proofs.vm_world.CallSteps.{call_rule}
 use Rattle.seg_ops.proofs.vm_world.FrameRule.{frame_law}
+use Rattle.seg_ops.proofs.vm_world.Shapes.{same-respects, tables-shape}
 use Rattle.seg_ops.specs.declared.plans.Fault.{Fault}
 use Rattle.seg_ops.specs.declared.plans.Fault.TheVariants as fault
 use Rattle.seg_ops.specs.vm_world.declared.wants.Wants.{Wants}
@@ -65,22 +66,22 @@ accessed true q Exit is = absurd is
 
 -- THE SAME CHANGE, said in other words.
 pub changes-as : (p : ℕ) (u v : Memory) (f g : Flat → Flat)
-    → ((born : set.FinSet nat_cmp) (notes : Notes) → NotesFit u.world notes → AllTell u.world notes → IsFlat (flat_memory u born notes) → f (flat_memory u born notes) ≡ g (flat_memory u born notes))
-    → ChangesMemory p u v (λ F G. G ≡ f F) → ChangesMemory p u v (λ F G. G ≡ g F)
+    → ((born : set.FinSet nat_cmp) (notes : Notes) → f (flat_memory u born notes) ≡ g (flat_memory u born notes)) → ChangesMemory p u v f → ChangesMemory p u v g
 changes-as p u v f g same c = record {
   machine = c.machine;
   others = c.others;
   memory = c.memory;
   notes = c.notes;
   tells = c.tells;
-  flat = λ born notes nf tell whole. c.flat born notes nf tell whole ∙ same born notes nf tell whole;
+  flat = λ born notes nf tell whole. c.flat born notes nf tell whole ∙ same born notes;
+  shaped = λ born notes. c.shaped born notes ∙ ap without_bytes (same born notes);
 }
 
 pub no-tails : (F : Flat) → tails_cleared F (λ f. false) ≡ F
 no-tails F = ap (λ (fs : List File). record F { files = fs }) (none-cleared F.files)
 
 -- A STEP THAT KEEPS ALL PAGES changes nothing.
-pub changes-kept : (p : ℕ) (u v : World) (spaces : Spaces) → MemoryFits (memory_of u spaces) → KeepsPages u v spaces → ChangesMemory p (memory_of u spaces) (memory_of v spaces) (λ F G. G ≡ F)
+pub changes-kept : (p : ℕ) (u v : World) (spaces : Spaces) → MemoryFits (memory_of u spaces) → KeepsPages u v spaces → ChangesMemory p (memory_of u spaces) (memory_of v spaces) (λ F. F)
 changes-kept p u v spaces f k = record {
   machine = record { core = k.core; frames = k.frames; slots = ap (λ (c : List ℕ). length c) k.tables.counts; disks = k.tables.disks; modes = same-modes u v k.tables; bays = k.bays };
   others = λ q far. refl;
@@ -88,6 +89,7 @@ changes-kept p u v spaces f k = record {
   notes = λ notes nf. k.notes notes tt nf;
   tells = λ notes nf. k.tells notes tt nf;
   flat = λ born notes nf tell whole. frame_law.flat u v spaces stays (λ n. false) born notes f k tt nf tell whole ∙ no-tails (flat_memory (memory_of u spaces) born notes);
+  shaped = λ born notes. tables-shape u v spaces born notes notes k.tables;
 }
 
 -- no tail is lost where the frame that is taken held no page
@@ -106,16 +108,15 @@ fault-whole (Err (wants.Seat h)) write F p q flat = flat
 pub serves-made : (old before freed made new : World) (spaces : Spaces) (p q : ℕ) (x : Spot) (write writable : Bool) (pending more frame : ℕ) (f : Flat → Flat)
     → MemoryFits (memory_of old spaces) → KeepsPages old before spaces → before.store.names ≡ old.store.names → before.files ≡ old.files
     → WorldStep before freed spaces stays (is_name (next_name before.store)) → PendsTails before (is_name (next_name before.store)) pending more → IfSome (next_name before.store) (λ (n : PageName). LosesFrame before freed n)
-    → ChangesMemory p (memory_of freed spaces) (memory_of made spaces) (λ F G. G ≡ f F)
-    → ((born : set.FinSet nat_cmp) (notes : Notes) → NotesFit freed notes → AllTell freed notes → IsFlat (flat_memory (memory_of freed spaces) born notes)
-    → f (flat_memory (memory_of freed spaces) born notes) ≡ after_fault (Ok fault.Loaded) write (flat_memory (memory_of freed spaces) born notes) p q)
+    → ChangesMemory p (memory_of freed spaces) (memory_of made spaces) f
+    → ((born : set.FinSet nat_cmp) (notes : Notes) → f (flat_memory (memory_of freed spaces) born notes) ≡ after_fault (Ok fault.Loaded) write (flat_memory (memory_of freed spaces) born notes) p q)
     → KeepsPages made new spaces → translation_at new.hat.places p q ≡ Some (fresh_translation p q frame writable) → (write ≡ true → writable ≡ true) → (MayWriteInPlace new.anon new.maps x → writable ≡ true) → SlotsAfter old new x write (Ok fault.Loaded)
     → IsTrue (shows_page old x) → AreReplaced old new (is_name (next_name before.store)) → ModifiesOnly (FaultModifies new x (Ok fault.Loaded)) old new → ServesFault (memory_of old spaces) (memory_of new spaces) pending more p q x write (Ok fault.Loaded)
 serves-made old before freed made new spaces p q x write writable pending more frame f fits keeps names files frees pends took makes same shows loaded lets opens slots some replaced modified = record {
   mid = freed;
   first = takes-later old before freed spaces pending more fits keeps names files (takes-next before freed spaces pending more frees pends took);
   acts = call_rule.joined p (memory_of freed spaces) (memory_of made spaces) (memory_of new spaces) (λ F. after_fault (Ok fault.Loaded) write F p q) (λ F. F)
-      (λ born notes nf tell whole. fault-whole (Ok fault.Loaded) write (flat_memory (memory_of freed spaces) born notes) p q whole)
+      (λ born notes nf tell whole. fault-whole (Ok fault.Loaded) write (flat_memory (memory_of freed spaces) born notes) p q whole) same-respects
       (changes-as p (memory_of freed spaces) (memory_of made spaces) f (λ F. after_fault (Ok fault.Loaded) write F p q) same makes)
       (changes-kept p made new spaces makes.memory shows);
   ends = tt;
@@ -147,6 +148,7 @@ serves-kept old new spaces p q x write pending more answer first replaced past s
     notes = λ notes nf. nf;
     tells = λ notes nf. ((λ tell. tell), (λ tell. tell));
     flat = λ born notes nf tell whole. same born notes;
+    shaped = λ born notes. ap without_bytes (same born notes);
   };
   ends = ends-there answer new;
   slots = slots;

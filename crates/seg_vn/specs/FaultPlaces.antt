@@ -72,9 +72,10 @@ pub record CopyPlace (w : World) (spaces : Spaces) (p q : ℕ) (x : Spot) (m i :
   pub some : IsTrue (shows_page w x)
   pub allowed : IsTrue (can_write x.0.prot)
 
--- Where the place holds no slot, its cell shows these bytes, as the disks tell it.
+-- Where the place holds no slot, its cell shows a page, and as the disks tell it these bytes.
 abbrev pub CellShows : World → Spaces → Spot → Option ℕ → Page → Type 0
-CellShows w spaces x slot bytes = slot ≡ None → (born : set.FinSet nat_cmp) (notes : Notes) → NotesFit w notes → AllTell w notes → shown (flat_memory (record { world = w; spaces = spaces }) born notes) (cell_of (contents_of w notes).place x) ≡ Some bytes
+CellShows w spaces x slot bytes = slot ≡ None → (born : set.FinSet nat_cmp) (notes : Notes)
+    → (page : Page) × (shown (flat_memory (record { world = w; spaces = spaces }) born notes) (cell_of (contents_of w notes).place x) ≡ Some page) × (NotesFit w notes → AllTell w notes → page ≡ bytes)
 
 -- What is shown is zeros that no frame holds: a page that was never pushed, or nothing of a zero object.
 abbrev pub ShowsZeros : World → Option PageName → Type 0
@@ -117,7 +118,7 @@ pub record GetsOwn (old new : World) (pending more m i : ℕ) (slot : Option ℕ
       → MemoryFits (record { world = new; spaces = spaces })
   pub changes : (spaces : Spaces) (p q : ℕ) (x : Spot) → MemoryFits (record { world = old; spaces = spaces }) → OwnsAlone spaces p q m i x → translation_at old.hat.places p q ≡ None
       → next_name old.store ≡ None → CellShows old spaces x slot bytes
-      → ChangesMemory p (record { world = old; spaces = spaces }) (record { world = new; spaces = spaces }) (λ F G. G ≡ with_own_shown F p q)
+      → ChangesMemory p (record { world = old; spaces = spaces }) (record { world = new; spaces = spaces }) (λ F. with_own_shown F p q)
 
 -- The place is the own one of this page of some process; it gets a slot, with these bytes; and what a store that needs one comes to.
 abbrev pub IsOwnSpot : {D : Type 0} → rust.World D → ℕ → ℕ → OwnPlace → Type 0

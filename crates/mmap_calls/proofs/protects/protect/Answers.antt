@@ -1,4 +1,4 @@
-use Rattle.std.proofs.Common.{◌≡◌, ℕ, ◌+◌, ◌-◌, Bool, true, false, Option, refl, sym, ap, ◌∙◌, subst, arith}
+use Rattle.std.proofs.Common.{◌≡◌, ℕ, ◌+◌, ◌-◌, Bool, true, false, Option, Some, refl, sym, ap, ◌∙◌, subst, arith}
 use Rattle.std.specs.Prelude.{IsSome}
 use Rattle.std.specs.FinMap as finite
 use Rattle.seg_vn.specs.anon_slots.Slots.{AnonSlotsSeen, count_at}
@@ -25,6 +25,7 @@ use Rattle.mmap_calls.proofs.Replaced.{fits-after, joined}
 use Rattle.mmap_calls.proofs.protects.protect.Given.{Over}
 use Rattle.mmap_calls.proofs.protects.protect.Goals.{After-are_mapped, After-may_have}
 use Rattle.mmap_calls.proofs.protects.protect.Goals as goal
+use Rattle.seg_vn.proofs.vm_world.Shapes.{prots-respects}
 
 -- what a Protect does, by its three tests
 abbrev tested : Flat → ℕ → ℕ → ℕ → Prot → Bool → Bool → Bool → Effect
@@ -118,7 +119,7 @@ returns-clause-done g c = λ spaces fits.
     let end : ℕ = c.page_of-first.result + c.pages_in.result in
     let cuts = c.in_ok-cut_ends.ensures.changes spaces fits in
     let here = fits-after p m (world_seen c.cut_ends.new.world) spaces cut c.cut_ends.new.world.zeros (λ F. F) cuts in
-    let raw = joined p m (world_seen c.cut_ends.new.world) (world_seen c.set_range.new.world) spaces cut left c.cut_ends.new.world.zeros c.set_range.new.world.zeros (λ F. with_range_prot F p first (end - first) c.args.prot) cuts (c.set_range.ensures.changes (finite.insert spaces p cut) here) in
+    let raw = joined p m (world_seen c.cut_ends.new.world) (world_seen c.set_range.new.world) spaces cut left c.cut_ends.new.world.zeros c.set_range.new.world.zeros (λ F. with_range_prot F p first (end - first) c.args.prot) (prots-respects p first (end - first) c.args.prot) cuts (c.set_range.ensures.changes (finite.insert spaces p cut) here) in
     let many : end - first ≡ c.pages_in.result = omega arith in
     let pages : end - first ≡ pages_in c.args.length = many ∙ c.pages_in.ensures.pages in
     let done : ChangesSpace p m new c.set_range.new.world.zeros (λ F. with_range_prot F p (page c.args.addr) (pages_in c.args.length) c.args.prot) =

@@ -8,6 +8,7 @@ use Rattle.seg_vn.proofs.seg_ops.Modified.{modifies-tables, modifies-then}
 use Rattle.seg_vn.specs.Clears.{ChangesSpace}
 use Rattle.mmap_calls.proofs.Replaced.{fits-after, joined}
 use Rattle.mmap_calls.proofs.unmaps.free_range.Goals as goal
+use Rattle.seg_vn.proofs.vm_world.Shapes.{pages-respects}
 
 pub clear-requires-clause-fits : goal.clear-requires-clause-fits
 clear-requires-clause-fits g c =
@@ -28,7 +29,7 @@ returns-clause-done g c = λ spaces fits.
     let here = fits-after p m v spaces cut c.cut_ends.new.world.zeros (λ F. F) cuts in
     let many : c.args.first + c.args.pages - c.args.first ≡ c.args.pages = omega arith in
     subst (λ (k : ℕ). ChangesSpace p m (memory c.clear.new.world (finite.insert spaces p left)) c.clear.new.world.zeros (λ F. without_pages F p c.args.first k)) many
-    (joined p m v w spaces cut left c.cut_ends.new.world.zeros c.clear.new.world.zeros (λ F. without_pages F p c.args.first (c.args.first + c.args.pages - c.args.first)) cuts (c.clear.ensures.changes (finite.insert spaces p cut) here))
+    (joined p m v w spaces cut left c.cut_ends.new.world.zeros c.clear.new.world.zeros (λ F. without_pages F p c.args.first (c.args.first + c.args.pages - c.args.first)) (pages-respects p c.args.first (c.args.first + c.args.pages - c.args.first)) cuts (c.clear.ensures.changes (finite.insert spaces p cut) here))
 
 pub returns-clause-modified : goal.returns-clause-modified
 returns-clause-modified g c =

@@ -10,7 +10,7 @@ use Rattle.vm_world.specs.World.{World, world_seen}
 use Rattle.vm_world.specs.declared.world.World as rust
 use Rattle.vm_world.specs.WorldSteps.{tails_lost}
 use Rattle.seg_ops.specs.Slots.{MakesHome, with_own_page}
-use Rattle.seg_ops.proofs.SlotCopies.{changes-again, own-blank}
+use Rattle.seg_ops.proofs.SlotCopies.{changes-again, own-blank, own-held}
 use Rattle.vm_world.specs.anon_slots.Slots.{AnonSlotsSeen, count_at}
 use Rattle.seg_ops.proofs.SlotCounts.{left-free}
 use Rattle.seg_ops.proofs.SlotPlaces.{place-twice}
@@ -40,9 +40,10 @@ returns-clause-changes g c = λ spaces p q x fits owns unloaded.
     let left = c.leave_slot.ensures.empties spaces p q x fits owns unloaded in
     let none = ap (λ hat. translation_at hat.places p q) left.hat ∙ unloaded in
     let made = c.make_zero.ensures.owned spaces p q x left.memory owns none in
-    changes-again w spaces p q x zeros owns.here (own-blank w spaces p q c.args.map c.args.place c.args.slot x fits c.requires.holds owns c.requires.absent c.requires.blank) mid new (tails_lost w (is_name (next_name w.store)))
+    changes-again w spaces p q x zeros owns.here (own-blank w spaces p q c.args.map c.args.place c.args.slot x fits c.requires.holds owns c.requires.absent c.requires.blank)
+    (own-held w spaces p q c.args.map c.args.place c.args.slot x fits c.requires.holds owns) mid new (tails_lost w (is_name (next_name w.store)))
     (c.leave_slot.ensures.changes spaces p q x fits owns unloaded)
-    (subst (λ (v : World). ChangesMemory p (memory_of mid spaces) (memory_of new spaces) (λ F G. G ≡ tails_cleared (with_own_page F p q zeros) (tails_lost v (is_name (next_name v.store))))) (ap world_seen c.leave_slot.ensures.rest) made)
+    (subst (λ (v : World). ChangesMemory p (memory_of mid spaces) (memory_of new spaces) (λ F. tails_cleared (with_own_page F p q zeros) (tails_lost v (is_name (next_name v.store))))) (ap world_seen c.leave_slot.ensures.rest) made)
 
 pub returns-clause-made : goal.returns-clause-made
 returns-clause-made g c =

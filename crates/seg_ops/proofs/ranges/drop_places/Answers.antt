@@ -25,7 +25,7 @@ loop-place-init g c =
       rest = refl;
       changes = λ spaces p first fits owns.
           let m = memory_of (world_seen c.args.world.now) spaces in
-          subst (λ (n : ℕ). ChangesMemory p m m (λ F G. G ≡ without_own_pages F p first n)) none (changes-none p m fits);
+          subst (λ (n : ℕ). ChangesMemory p m m (λ F. without_own_pages F p first n)) none (changes-none p m fits);
     }
 
 pub empty_place-requires : goal.empty_place-requires
@@ -71,7 +71,7 @@ loop-place-preserved g c =
           let own = owns-next old.hat.places (world_seen cur) spaces p first m from (c.args.end - from) k before.memory owns (omega (arith, lt, low)) in
           let none = ap (λ (w : World g.row.D.Denot). translation_at w.hat.places p (first + k)) c.loop-place.invariant.rest ∙ owns.unloaded (first + k) (omega arith) (omega (arith, lt, low)) in
           let one = c.empty_place.ensures.changes spaces p (first + k) (owns.segment, from + k) before.memory (subst (λ (i : ℕ). OwnsAlone spaces p (first + k) m i (owns.segment, from + k)) (sym at_place) own) none in
-          subst (λ (n : ℕ). ChangesMemory p (memory_of (world_seen old) spaces) (memory_of (world_seen new) spaces) (λ F G. G ≡ without_own_pages F p first n)) next
+          subst (λ (n : ℕ). ChangesMemory p (memory_of (world_seen old) spaces) (memory_of (world_seen new) spaces) (λ F. without_own_pages F p first n)) next
           (changes-more p first k (memory_of (world_seen old) spaces) (memory_of (world_seen cur) spaces) (memory_of (world_seen new) spaces) before one);
     }
 
@@ -80,5 +80,5 @@ returns-clause-changes g c = λ spaces p first fits owns.
     let done = c.loop-place-test.false in
     let high = c.loop-place.auto.place-end c.requires.range in
     let last : c.loop-place.place - c.args.from ≡ c.args.end - c.args.from = omega (arith, done, high) in
-    subst (λ (n : ℕ). ChangesMemory p (memory_of (world_seen c.args.world.now) spaces) (memory_of (world_seen c.loop-place.world) spaces) (λ F G. G ≡ without_own_pages F p first n)) last
+    subst (λ (n : ℕ). ChangesMemory p (memory_of (world_seen c.args.world.now) spaces) (memory_of (world_seen c.loop-place.world) spaces) (λ F. without_own_pages F p first n)) last
     (c.loop-place.invariant.changes spaces p first fits owns)

@@ -22,5 +22,5 @@ invariant-loop-place g l = record {
   modified : ModifiesNone (world_seen l.fn.world) (world_seen l.world);
   rest : l.world ≡ record l.fn.world { store = l.world.store; anon = l.world.anon; maps = l.world.maps };
   changes : (spaces : Spaces) (p first : ℕ) → MemoryFits (memory_of (world_seen l.fn.world) spaces) → OwnsPlaces l.fn.world.hat.places spaces p first l.fn.map l.fn.from (l.fn.end - l.fn.from)
-      → ChangesMemory p (memory_of (world_seen l.fn.world) spaces) (memory_of (world_seen l.world) spaces) (λ F G. G ≡ without_own_pages F p first (l.place - l.fn.from));
+      → ChangesMemory p (memory_of (world_seen l.fn.world) spaces) (memory_of (world_seen l.world) spaces) (λ F. without_own_pages F p first (l.place - l.fn.from));
 }

@@ -61,7 +61,7 @@ returns-in-Some-clause-changes g c spaces part =
     let all : n ≡ n - 0 = omega arith in
     let owned = subst (λ (k : ℕ). OwnsPlaces w.hat.places spaces p first c.in-Some.map 0 k) all (owns-part w spaces p first c.args.segment part.part part.unloaded c.in-Some.map c.in-Some.is) in
     loses-own p first n (record { world = w; spaces = spaces }) (record { world = new; spaces = spaces })
-    (subst (λ (k : ℕ). ChangesMemory p (record { world = w; spaces = spaces }) (record { world = new; spaces = spaces }) (λ F G. G ≡ without_own_pages F p first k)) (sym all)
+    (subst (λ (k : ℕ). ChangesMemory p (record { world = w; spaces = spaces }) (record { world = new; spaces = spaces }) (λ F. without_own_pages F p first k)) (sym all)
     (c.drop_places.ensures.changes spaces p first part.part.memory owned))
 
 pub returns-in_default-clause-changes : goal.returns-in_default-clause-changes
