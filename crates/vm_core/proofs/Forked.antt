@@ -20,6 +20,7 @@ use Rattle.fault_entry.specs.vm_types.declared.call.Reply.TheVariants as reply
 use Rattle.fault_entry.specs.flat_model.Flat.{Flat, private_cells, reserved}
 use Rattle.fault_entry.specs.flat_model.Mapping.{cells_of}
 use Rattle.fault_entry.specs.flat_model.Refusals.{check, done_effect, or_refused}
+use Rattle.fault_entry.specs.flat_model.Shapes.{without_bytes}
 use Rattle.fault_entry.specs.flat_model.Step.{effect}
 use Rattle.fault_entry.specs.flat_model.Processes.{with_child}
 use Rattle.fault_entry.specs.flat_model.Told.{entries_of}
@@ -159,8 +160,8 @@ module _ (s : KernelState) (m : Memory) (seat p child : ℕ) (fits : FitsAt s se
   abbrev entry : Reply → Entry
   entry r = fork_entry p child r s.pending
 
-  may : (r : Reply) → MayFork s seat child (entry r)
-  may r = record { fork = refl; try = try; cleared = refl; formed = formed }
+  may : (r : Reply) → ((b : set.FinSet nat_cmp) (notes : Notes) → (effect (flat_memory s.memory b notes) p (Fork child)).reply ≡ r) → MayFork s seat child (entry r)
+  may r due = record { fork = refl; try = try; cleared = refl; formed = formed; refusal = λ b notes. ap refusal_in (due b notes) }
 
   locks : (r : Reply) → LocksAfter (entry r) s.calls s.calls
   locks r = locks-same s.history s.calls s.syncs seat p s.pending (Fork child) r fits.2.calls p-is (try.follows r s.pending) refl
@@ -195,7 +196,7 @@ module _ (s : KernelState) (m : Memory) (seat p child : ℕ) (fits : FitsAt s se
       record {
         answers = is-done (set.insert s.born child) reply.Done syncs tt does.due starts bears.machine.bays;
         slots = counted.counts;
-        event = fork_rule.done s m seat child (entry reply.Done) s.calls syncs (may reply.Done) refl bears (locks reply.Done) starts (length-set (slice_set s.syncs (child - 1) None) (p - 1) None ∙ length-set s.syncs (child - 1) None);
+        event = fork_rule.done s m seat child (entry reply.Done) s.calls syncs (may reply.Done does.due) refl bears (locks reply.Done) starts (length-set (slice_set s.syncs (child - 1) None) (p - 1) None ∙ length-set s.syncs (child - 1) None);
       }
 
   same-acts : ((b : set.FinSet nat_cmp) (notes : Notes) → (effect (flat_memory s.memory b notes) p (Fork child)).reply ≡ reply.Refused NoSwap) → ActsOnMemory s.memory s.memory (entry (reply.Refused NoSwap))
@@ -206,6 +207,7 @@ module _ (s : KernelState) (m : Memory) (seat p child : ℕ) (fits : FitsAt s se
     notes = λ notes nf. nf;
     tells = λ notes nf. ((λ h. h), (λ h. h));
     flat = λ b notes nf tell whole. (due b notes, refused-same (flat_memory s.memory b notes) p child (due b notes));
+    shaped = λ b notes. ap without_bytes (refused-same (flat_memory s.memory b notes) p child (due b notes));
   }
 
   forks-refused : RefusesFork s.memory m p child → m.world.anon.counts ≡ s.memory.world.anon.counts
@@ -218,7 +220,7 @@ module _ (s : KernelState) (m : Memory) (seat p child : ℕ) (fits : FitsAt s se
       record {
         answers = is-done s.born (reply.Refused NoSwap) syncs tt refuses.due starts (ap (λ (n : Memory). n.world.store.bays) refuses.same);
         slots = λ slot. ap (λ (counts : List ℕ). slice_index counts slot) counted;
-        event = fork_rule.refused s m seat child (entry (reply.Refused NoSwap)) NoSwap s.calls syncs (may (reply.Refused NoSwap)) refl
+        event = fork_rule.refused s m seat child (entry (reply.Refused NoSwap)) NoSwap s.calls syncs (may (reply.Refused NoSwap) refuses.due) refl
             (subst (λ (n : Memory). ActsOnMemory s.memory n (entry (reply.Refused NoSwap))) (sym refuses.same) (same-acts refuses.due))
             (λ _. subst (λ (n : Memory). IsSome (finite.get n.spaces p)) (sym refuses.same) try.alive) (locks (reply.Refused NoSwap)) starts (length-set s.syncs (p - 1) None);
       }

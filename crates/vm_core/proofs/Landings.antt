@@ -211,6 +211,7 @@ module _ (s : KernelState) (new : World) (seat : ℕ) (f : FlightSeen)
     fixed = (quiet-at opening seats own fit is p).fixed;
     sizes = λ o x here fits. (quiet-at o x sent fits here q).sizes o x here fits;
     grown = (quiet-at opening seats own fit is p).grown;
+    follows = (quiet-at opening seats own fit is p).follows;
   }
 
   -- with the entry of its error
@@ -228,6 +229,7 @@ module _ (s : KernelState) (new : World) (seat : ℕ) (f : FlightSeen)
     fixed = (failed-at opening seats own q call calls syncs fit is b.performed b.same bad locks starts count).fixed;
     sizes = λ o x here fits. (failed-at o x sent q call calls syncs fits here c.performed c.same bad locks starts count).sizes o x here fits;
     grown = (failed-at opening seats own q call calls syncs fit is b.performed b.same bad locks starts count).grown;
+    follows = (failed-at opening seats own q call calls syncs fit is b.performed b.same bad locks starts count).follows;
   }
 
 -- THE STATE WITH THE ENTRY, once the file was released and the entry added.
