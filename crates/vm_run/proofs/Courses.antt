@@ -17,8 +17,9 @@ use Rattle.volume_files.specs.block_device.StreamSeen.{SinkSeen}
 use Rattle.volume_files.proofs.flat_model.Bytes.{All-slice_get}
 use Rattle.volume_files.specs.flat_model.Flat.{Flat}
 use Rattle.volume_files.specs.flat_model.History.{Legal, replay}
+use Rattle.volume_files.specs.flat_model.Shapes.{RefusesAsDue}
 use Rattle.volume_files.specs.vnode_files.Files.{FilesSeen}
-use Rattle.volume_files.specs.vnode_files.Vnode.{VnodeSeen, fresh_vnode}
+use Rattle.volume_files.specs.vnode_files.Vnode.{VnodeSeen}
 use Rattle.volume_files.specs.vnode_files.declared.vnode.FileInfo.{FileInfo}
 use Rattle.volume_files.specs.vm_script.PlanSeen.{PlanSeen}
 use Rattle.volume_files.specs.vm_script.Rules.{amounts_of}
@@ -173,6 +174,7 @@ module _ (st : ℕ) (ft : Option RunFault) (g : Given) (what : Asked) (files : L
     opened = is-opened;
     read = read-bytes;
     legal = λ t. subst (λ (F : Flat). Legal F l.history.entries) flat-same (left.legal (told-left t.disks));
+    refusals = subst (λ (F : Flat). RefusesAsDue F l.history.entries) flat-same left.refusals;
     counted = left.counted;
     reached = reached;
   }

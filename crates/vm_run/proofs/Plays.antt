@@ -8,6 +8,7 @@ use Rattle.volume_files.specs.vm_types.WellFormed.{IsWellFormed}
 use Rattle.volume_files.specs.vnode_files.Files.{FilesSeen}
 use Rattle.volume_files.specs.flat_model.Counted.{Counted}
 use Rattle.volume_files.specs.flat_model.Flat.{Flat}
+use Rattle.volume_files.specs.flat_model.Shapes.{RefusesAsDue}
 use Rattle.vm_core.specs.Finish.{FitsStill, disks_of}
 use Rattle.volume_files.specs.vm_script.Counts.{entry_count}
 use Rattle.volume_files.specs.vm_script.declared.plan.PlanLine.{PlanLine}
@@ -68,6 +69,7 @@ is-left plan F disks swap files n s t l may st come c =
     let have : HaveDisks files (disks_of s.memory.world) = subst (HaveDisks files) (sym st.racked) st.have in
     record {
       legal = legal-left F s t l event before c;
+      refusals = subst (RefusesAsDue F) (sym c.entries) (event.follows F st.follows).refusals;
       formed = subst (All (λ (e : Entry). IsWellFormed e.call)) (sym c.entries) (formed-entries plan.lines n s t (plays-one plan may).lines come);
       counted = subst Counted (sym c.entries) after.faults.counted;
       few = let most = few-made plan.lines n s t come in let lines = may.sound.few_lines in let long = ap (λ (H : List Entry). length H) c.entries in omega (arith, most, lines, long);

@@ -1,6 +1,6 @@
 -- A kernel at the start fits flat memory as the processes find it.
 use Rattle.vm_core.proofs.Starts.{disk-home}
-use Rattle.std.proofs.Common.{◌≡◌, ◌≢◌, ℕ, suc, ◌+◌, ◌<◌, Bool, true, false, cond, List, [], ◌∷◌, length, map, Option, Some, None, refl, sym, ap, ◌∙◌, subst, arith}
+use Rattle.std.proofs.Common.{◌≡◌, ◌≢◌, ℕ, suc, ◌+◌, ◌-◌, ◌*◌, ◌<◌, Bool, true, false, cond, List, [], ◌∷◌, ◌++◌, length, map, replicate, Option, Some, None, refl, sym, ap, ◌∙◌, subst, arith}
 use Rattle.std.specs.Prelude.{slice_get, slice_index_or, is_some, unwrap_or, IfSome}
 use Rattle.std.specs.FinMap as finite
 use Rattle.std.specs.FinSet as set
@@ -8,10 +8,12 @@ use Rattle.std.proofs.lemmas.List.{length-map, get_or-map}
 use Rattle.std.proofs.lemmas.Option.{slice_get_within}
 use Rattle.vm_core.specs.addr_space.Space.{Part}
 use Rattle.volume_files.specs.block_device.DiskSeen.{DiskSeen, HasBlocks, AreBlocks}
+use Rattle.volume_files.specs.vm_types.declared.call.Entry.{Entry}
 use Rattle.volume_files.specs.flat_model.Flat.{Flat}
-use Rattle.volume_files.specs.flat_model.Words.{pages_in}
-use Rattle.volume_files.proofs.flat_model.FileBytes.{Whole}
-use Rattle.vm_core.specs.page_store.Bays.{BaySeen, home, bay_at}
+use Rattle.volume_files.specs.flat_model.Shapes.{SameShape, blank_file, blank_pages, blank_space, map_with}
+use Rattle.volume_files.specs.flat_model.Words.{Page, pages_in, zero_page}
+use Rattle.volume_files.proofs.flat_model.FileBytes.{Whole, length-pages_of_bytes}
+use Rattle.vm_core.specs.page_store.Bays.{BaySeen, home}
 use Rattle.vm_core.specs.page_store.New.{AreHome}
 use Rattle.vm_core.specs.page_store.Notes.{no_notes}
 use Rattle.vm_core.specs.page_store.Value.{content_of, content_in_bay, tells}
@@ -23,7 +25,8 @@ use Rattle.volume_files.specs.vnode_files.Vnode.{VnodeSeen, no_vnode, page_block
 use Rattle.volume_files.proofs.vnode_files.BlockLemmas.{length-page_blocks}
 use Rattle.volume_files.proofs.vnode_files.LayoutLaws.{file_layout_law}
 use Rattle.volume_files.specs.volume_format.Table.{no_entry}
-use Rattle.vm_core.specs.vm_world.FlatMemory.{flat_memory, files_with_pages, shape_of}
+use Rattle.vm_core.specs.vm_world.FlatMemory.{flat_memory, file_with_pages, files_with_pages, shape_of}
+use Rattle.vm_core.specs.vm_world.Events.{FollowsHistory}
 use Rattle.vm_core.specs.vm_world.HistoryFits.{HistoryFits}
 use Rattle.vm_core.specs.vm_world.Opening.{IsOpening, no_seats}
 use Rattle.vm_core.specs.vm_world.Pages.{page_value, file_contents, contents_of}
@@ -31,6 +34,7 @@ use Rattle.vm_core.specs.vm_world.declared.segment.Segment.{Segment}
 use Rattle.vm_core.specs.vm_world.State.{KernelState, is_top}
 use Rattle.vm_core.specs.vm_world.StateFits.{StateFits}
 use Rattle.vm_core.specs.vm_world.World.{file_name, AllTell}
+use Rattle.vm_core.proofs.vm_world.FilePages.{length-pages_from}
 use Rattle.vm_core.proofs.vm_world.PageNames.{file-page, file-place, below-kept, index-of, file-there}
 use Rattle.vm_core.proofs.vm_world.Spaces.{EmptySpaces}
 use Rattle.volume_files.specs.vm_script.PlanSeen.{PlanSeen}
@@ -181,6 +185,37 @@ module _ (files : List OpenedFile) (disks : List (ℕ × DiskSeen)) (swap : Opti
       let spaces = spaces-are s.memory.spaces s.parents place k.opening.memory.spaces ∙ ap (λ (l : List ℕ). finite.from_entries (map (λ (p : ℕ). (p, finite.empty)) (top_processes 1 l))) parents in
       let born = born-is s.born s.parents k.opening.born ∙ ap (λ (l : List ℕ). set.from_list (top_processes 1 l)) parents in
       λ i. record { slots = slots i; disks = sized i; files = all i; zeros = none i; spaces = spaces i; born = born i }
+
+  -- WHATEVER THE DISKS TELL, it has the shape of flat memory as the processes find it
+  file-bare : (page : ℕ → Page) (f : OpenedFile) → blank_file (file_with_pages page f.info) ≡ blank_file (opened_flat_file f)
+  file-bare page f =
+      let n = pages_in f.info.length in
+      let count = length-pages_from page 0 n ∙ sym (length-pages_of_bytes n (f.bytes ++ replicate (4096 * n - f.info.length) 0)) in
+      λ i. record { len = f.info.length; disk = f.info.disk; extents = f.info.extents; writable = f.info.writable; pages = replicate (count i) zero_page }
+
+  files-bare : (page : ℕ → ℕ → Page) (j : ℕ) (fs : List OpenedFile) → map blank_file (files_with_pages page j (infos_of fs)) ≡ map blank_file (map opened_flat_file fs)
+  files-bare page j [] = refl
+  files-bare page j (f ∷ fs) = λ i. file-bare (page j) f i ∷ files-bare page (suc j) fs i
+
+  pub started-follows : (plan : PlanSeen) (sizes : List (ℕ × ℕ)) → s.parents ≡ plan.parents → length s.memory.world.anon.counts ≡ (amounts_of plan.setup).slots
+      → s.memory.world.files.disks ≡ finite.from_entries sizes → FollowsHistory (opening_flat plan sizes files) s
+  started-follows plan sizes parents slots sized = record {
+    shape = λ notes.
+        let w = s.memory.world in
+        let place = (contents_of w notes).place in
+        let page = file_contents (page_value w notes) in
+        let all : map blank_file (files_with_pages page 0 (map (λ (v : VnodeSeen). v.info) w.files.files)) ≡ map blank_file (map opened_flat_file files) =
+        ap (λ (l : List FileInfo). map blank_file (files_with_pages page 0 l)) (ap (λ (l : List VnodeSeen). map (λ (v : VnodeSeen). v.info) l) k.fresh ∙ infos-fresh (infos_of files)) ∙ files-bare page 0 files in
+        let none = zeros-none s.memory.spaces place (shape_of s.memory).lengths empty-spaces in
+        let spaces = spaces-are s.memory.spaces s.parents place k.opening.memory.spaces ∙ ap (λ (l : List ℕ). finite.from_entries (map (λ (p : ℕ). (p, finite.empty)) (top_processes 1 l))) parents in
+        let born = born-is s.born s.parents k.opening.born ∙ ap (λ (l : List ℕ). set.from_list (top_processes 1 l)) parents in
+        same-shape {F = flat_memory s.memory s.born notes} {G = opening_flat plan sizes files} slots sized all none spaces born;
+    refusals = λ i e at own. absurd (let z : ◌≡◌ {A = Option Entry} None (Some e) = sym (ap (λ (H : List Entry). slice_get H i) k.opening.history) ∙ at in cc);
+  }
+    where
+      -- field by field
+      same-shape : {F G : Flat} → F.slots ≡ G.slots → F.disks ≡ G.disks → map blank_file F.files ≡ map blank_file G.files → F.zeros ≡ G.zeros → F.spaces ≡ G.spaces → F.born ≡ G.born → SameShape F G
+      same-shape slots disks files zeros spaces born = λ i. record { slots = slots i; disks = disks i; files = files i; zeros = map_with blank_pages (zeros i); spaces = map_with blank_space (spaces i); born = born i }
 
   pub started-fits : (plan : PlanSeen) (sizes : List (ℕ × ℕ)) → s.parents ≡ plan.parents → length s.memory.world.anon.counts ≡ (amounts_of plan.setup).slots
       → s.memory.world.files.disks ≡ finite.from_entries sizes

@@ -27,7 +27,7 @@ use Rattle.volume_files.specs.Opened.{OpenedFile, opening_flat, disk_specs}
 use Rattle.vm_run.specs.Played.{IsStarted, HasRoomForPlan}
 use Rattle.volume_files.specs.Written.{LieWell, HaveDisks}
 use Rattle.vm_run.proofs.StartRules.{right-amounts, few-disks, disk-numbers}
-use Rattle.vm_run.proofs.StartedFlat.{IsStartedWith, started-fits}
+use Rattle.vm_run.proofs.StartedFlat.{IsStartedWith, started-fits, started-follows}
 
 -- disks with their numbers
 abbrev pub with_number : {D : Type 0} → NumberedDisk D → ℕ × D
@@ -107,6 +107,7 @@ module _ (plan : PlanSeen) (holds : Spec → Option (List (List ℕ))) (files : 
       record {
         opening = opening;
         fits = started-fits files a.disks a.swap s with' plan (map (λ (d : ℕ × DiskSeen). (d.0, d.1.size)) a.disks) parents slots (ap (λ (f : FilesSeen). f.disks) is ∙ p.sizes) fits;
+        follows = started-follows files a.disks a.swap s with' plan (map (λ (d : ℕ × DiskSeen). (d.0, d.1.size)) a.disks) parents slots (ap (λ (f : FilesSeen). f.disks) is ∙ p.sizes);
         parents = parents;
         rooms = rooms;
         seats = (some, omega (arith, enough, count));

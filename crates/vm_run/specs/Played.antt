@@ -16,7 +16,9 @@ use Rattle.vm_core.specs.Finish.{HistorySeen, disks_of}
 use Rattle.volume_files.specs.vm_script.Counts.{entry_count}
 use Rattle.volume_files.specs.vm_script.PlanSeen.{PlanSeen}
 use Rattle.volume_files.specs.vm_script.Told.{own_lines}
+use Rattle.volume_files.specs.flat_model.Shapes.{RefusesAsDue}
 use Rattle.vm_core.specs.vm_world.DiskPlaces.{seen_in}
+use Rattle.vm_core.specs.vm_world.Events.{FollowsHistory}
 use Rattle.vm_core.specs.vm_world.Opening.{IsOpening, no_seats}
 use Rattle.vm_core.specs.vm_world.State.{KernelState, room_of, mode_of}
 use Rattle.vm_core.specs.vm_world.StateFits.{StateFits}
@@ -34,11 +36,12 @@ use Rattle.volume_files.specs.vm_script.Rules.{amounts_of}
 abbrev pub HasRoomForPlan : PlanSeen → List ℕ → Type 0
 HasRoomForPlan plan entries = (p : ℕ) → entry_count (own_lines plan p) ≤ room_of entries p
 
--- A KERNEL AT THE START: nothing happened yet; it fits this flat memory; it has the plan's processes, frames, translations and slots, these disks, the
+-- A KERNEL AT THE START: nothing happened yet; it fits this flat memory, and follows its history from there whatever disks tell; it has the plan's processes, frames, translations and slots, these disks, the
 -- swap disk and the files.
 pub record IsStarted (plan : PlanSeen) (F : Flat) (disks : List (ℕ × DiskSeen)) (swap : Option DiskSeen) (files : FilesSeen) (s : KernelState) : Type 0 where
   pub opening : IsOpening s
   pub fits : StateFits F s no_seats
+  pub follows : FollowsHistory F s
   pub parents : s.parents ≡ plan.parents
   pub rooms : HasRoomForPlan plan s.entries
   pub seats : (1 ≤ length s.syncs) × (length s.entries ≤ length s.syncs)
@@ -84,9 +87,10 @@ pub record IsClosingFault (l : LeftSeen) (f : DiskFault) : Type 0 where
   pub told : slice_index_or l.history.faults f.disk None ≡ Some count
   pub fault : HasLastFault count disk (disk_fault_counts f)
 
--- WHAT A KERNEL LEAVES that was started with flat memory F: a history that is legal, the files as the history leaves them, and the disks.
+-- WHAT A KERNEL LEAVES that was started with flat memory F: a history that is legal, and has what was due, the files as the history leaves them, and the disks.
 pub record KernelLeaves (F : Flat) (s : KernelState) (l : LeftSeen) : Type 0 where
   pub legal : HaveTold (bare_disks l.disks) l.swap → Legal F l.history.entries
+  pub refusals : RefusesAsDue F l.history.entries
   pub formed : All (λ (e : Entry). IsWellFormed e.call) l.history.entries
   pub few : length l.history.entries < 2 ^ 32
   pub counted : Counted l.history.entries

@@ -10,6 +10,7 @@ use Rattle.volume_files.specs.block_device.declared.disk_fault.DiskFault.{DiskFa
 use Rattle.volume_files.specs.flat_model.Counted.{Counted}
 use Rattle.volume_files.specs.flat_model.Flat.{Flat}
 use Rattle.volume_files.specs.flat_model.History.{Legal, replay}
+use Rattle.volume_files.specs.flat_model.Shapes.{RefusesAsDue}
 use Rattle.volume_files.specs.vnode_files.declared.vnode.FileInfo.{FileInfo}
 use Rattle.volume_files.specs.vm_report.Faults.{disk_fault_text}
 use Rattle.volume_files.specs.vm_script.PlanSeen.{PlanSeen}
@@ -161,7 +162,8 @@ pub record StopsInTrace (g : Given) (o : Outside) (e : End) : Type 0 where
   pub cause : HasRisen o.sink_old.faults o.sink_new.faults
   pub wrote : WrotePart o.sink_old o.sink_new (opening_part what files e.disks bytes)
 
--- THE RUN BEGAN. Flat memory as the processes find it; the history is legal for it; each of its device errors names a fault that its disk counted.
+-- THE RUN BEGAN. Flat memory as the processes find it; where the disks tell, the history is legal for it; whatever they tell, each of its entries has the
+-- signal or errno that flat memory calls due, or none where none is; and each of its device errors names a fault that its disk counted.
 abbrev pub flat_opened : Asked → List OpenedFile → List DiskSeen → Flat
 flat_opened what files disks = opening_flat what.plan (sizes_of what.plan disks) files
 
@@ -175,6 +177,7 @@ pub record Begun (g : Given) (what : Asked) (files : List OpenedFile) (bytes : �
   pub opened : IsOpened g what files e
   pub read : AreOpenedBytes g what files e bytes
   pub legal : DisksTell g what e → Legal (flat_opened what files e.disks) e.history.entries
+  pub refusals : RefusesAsDue (flat_opened what files e.disks) e.history.entries
   pub counted : Counted e.history.entries
   pub reached : CountsReach what.plan e.disks e.swap e.history.entries
 
