@@ -11,6 +11,7 @@ use Rattle.seg_ops.specs.flat_model.Access.{with_change_at}
 use Rattle.seg_ops.specs.flat_model.Flat.{File, IsFile}
 use Rattle.seg_ops.specs.flat_model.LineLaws.{page_front}
 use Rattle.seg_ops.specs.flat_model.Parts.{longer_file, shorter_file, file_of_length, with_extents_of}
+use Rattle.seg_ops.specs.flat_model.Shapes.{blank_file}
 use Rattle.seg_ops.specs.flat_model.Words.{Page, IsPage, IsByte, page, pages_in, zero_page, with_bytes}
 use Rattle.seg_ops.proofs.flat_model.Bytes.{slice_get-with_change_at, slice_get-changed_apart}
 use Rattle.seg_ops.proofs.flat_model.WellFormed.{Each, Each-All, All-Each, IsPage-zero_page}
@@ -21,6 +22,7 @@ use Rattle.seg_ops.proofs.vm_world.PageNames.{index-of}
 use Rattle.seg_map.specs.Cuts.{IsPastEnd, CutLaw}
 use Rattle.seg_map.specs.Puts.{with_bytes_in}
 use Rattle.seg_map.specs.Voids.{with_page_void}
+use Rattle.seg_map.proofs.Alike.{less-end, more-alike, put-alike, seen-count, shorter-alike, void-alike}
 use Rattle.seg_map.proofs.Wholes.{shorter-pages, longer-short, same-change}
 
 -- a file with one page changed, to a page
@@ -41,7 +43,7 @@ past-void : (n i : ℕ) → pages_in n ≤ i → IsPastEnd n (with_page_void i)
 past-void n i past = record {
   cut = λ file is. ap (λ (ps : List Page). record file { len = n; pages = ps }) (shorter-pages n (with_page_void i file) file (changed-whole (λ old. zero_page) file i (λ old p. IsPage-zero_page) is) is
       (λ j lt. ap (option_map (page_front (n - 4096 * j))) (slice_get-changed_apart (λ (old : Page). zero_page) file.pages i j (λ e. omega (arith, e, lt, past)))));
-  len = λ file. refl;
+  alike = λ file. void-alike i file;
   whole = λ file is. changed-whole (λ old. zero_page) file i (λ old p. IsPage-zero_page) is;
 }
 
@@ -67,7 +69,7 @@ front-same n old whole =
 past-tail : (n : ℕ) → IsPastEnd n (with_bytes_in (page n) (n % 4096) (behind n))
 past-tail n = record {
   cut = λ file is. ap (λ (ps : List Page). record file { len = n; pages = ps }) (shorter-pages n (with_bytes_in (page n) (n % 4096) (behind n) file) file (changed-whole put file (page n) (put-zeros n) is) is (λ j lt. by_page file is j (cases_eq j (page n))));
-  len = λ file. refl;
+  alike = λ file. put-alike (page n) (n % 4096) (behind n) file;
   whole = λ file is. changed-whole put file (page n) (put-zeros n) is;
 }
   where
@@ -87,7 +89,7 @@ past-tail n = record {
 past-then : (n : ℕ) (g h : File → File) → IsPastEnd n g → IsPastEnd n h → IsPastEnd n (λ file. h (g file))
 past-then n g h a b = record {
   cut = λ file is. b.cut (g file) (a.whole file is) ∙ a.cut file is;
-  len = λ file. b.len (g file) ∙ a.len file;
+  alike = λ file. b.alike (g file) ∙ a.alike file;
   whole = λ file is. b.whole (g file) (a.whole file is);
 }
 
@@ -104,6 +106,10 @@ cuts f n es u v w g less past a b = same-change f u w (λ file. shorter_file n (
     (λ notes nf tell is.
     let file = file_seen u.world notes f in
     shorter-extents n es (g file) ∙ ap (with_extents_of es) (past.cut file is) ∙ sym (shorter-extents n es file) ∙ shorter-is n (with_extents_of es file) less)
+    (λ notes file is.
+    let e : file.len ≡ (vnode_at u.world.files f).info.length = ap (λ (x : File). x.len) is in
+    ap blank_file (less-end n (with_extents_of es file) (omega (arith, e, less)))
+    ∙ shorter-alike n (with_extents_of es file) (with_extents_of es (g file)) (ap (with_extents_of es) (sym (past.alike file))))
     (files-then f u v w g (λ file. shorter_file n (with_extents_of es file)) a b)
 
 -- A FARTHER END, or the same.
@@ -119,13 +125,16 @@ longer-is n file is le = by_end (cases_lt file.len n)
 
 grows : (f n : ℕ) (es : List Extent) (u v : Memory) → (vnode_at u.world.files f).info.length ≤ n → ChangesFile f u v (λ file. longer_file n (with_extents_of es file)) → ChangesFile f u v (λ file. file_of_length n (with_extents_of es file))
 grows f n es u v le a = same-change f u v (λ file. longer_file n (with_extents_of es file)) (λ file. file_of_length n (with_extents_of es file))
-    (λ notes nf tell is. longer-is n (with_extents_of es (file_seen u.world notes f)) (record { count = is.count; pages = is.pages }) le) a
+    (λ notes nf tell is. longer-is n (with_extents_of es (file_seen u.world notes f)) (record { count = is.count; pages = is.pages }) le)
+    (λ notes file is.
+    let e : file.len ≡ (vnode_at u.world.files f).info.length = ap (λ (x : File). x.len) is in
+    more-alike n (with_extents_of es file) (omega (arith, e, le)) (seen-count u.world notes f file is)) a
 
 pub cut_law : CutLaw
 cut_law = record {
   void = past-void;
   tail = past-tail;
-  none = λ n. record { cut = λ file is. refl; len = λ file. refl; whole = λ file is. is };
+  none = λ n. record { cut = λ file is. refl; alike = λ file. refl; whole = λ file is. is };
   joined = past-then;
   cuts = λ f n es u v w g lt less past a b. cuts f n es u v w g less past a b;
   longer = grows;

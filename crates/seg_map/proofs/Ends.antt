@@ -32,6 +32,7 @@ use Rattle.seg_ops.specs.vnode_files.Grow.{page_count}
 use Rattle.seg_ops.specs.vnode_files.Vnode.{VnodeSeen, is_blank, block_at}
 use Rattle.seg_ops.specs.flat_model.Flat.{File, IsFile}
 use Rattle.seg_ops.specs.flat_model.Parts.{shorter_file, longer_file, file_of_length, with_extents_of}
+use Rattle.seg_ops.specs.flat_model.Shapes.{blank_file}
 use Rattle.seg_ops.specs.flat_model.Words.{Page, pages_in, zero_page, IsPage}
 use Rattle.seg_ops.specs.flat_model.LineLaws.{page_front}
 use Rattle.seg_ops.proofs.flat_model.Grown.{grown_pages_law, slice_get-append_left as got-left, slice_get-append_right as got-right}
@@ -47,12 +48,13 @@ use Rattle.seg_ops.specs.vm_world.Pages.{page_value, file_contents}
 use Rattle.seg_ops.specs.vm_world.State.{FileMode, mode_of}
 use Rattle.seg_ops.specs.vm_world.World.{World, file_blocks, file_name, is_unpushed, is_page_name, page_exists, world_table, AllTell}
 use Rattle.seg_ops.proofs.vm_world.Clips.{clip-whole, front-clip}
-use Rattle.seg_ops.proofs.vm_world.FilePages.{page-in, page-past}
+use Rattle.seg_ops.proofs.vm_world.FilePages.{length-pages_from, page-in, page-past}
 use Rattle.seg_ops.proofs.vm_world.FileSteps.{same-lists}
 use Rattle.seg_ops.proofs.vm_world.FrameRule.{exists-page}
 use Rattle.seg_ops.proofs.vm_world.PageNames.{not-slot, index-of, file-there, file-apart, file-page, page-cases, below-kept}
 use Rattle.seg_ops.proofs.vm_world.StoredPages.{zeros-are}
 use Rattle.seg_ops.proofs.StillSteps.{value-is}
+use Rattle.seg_map.proofs.Alike.{same-count, shorter-count}
 use Rattle.seg_map.specs.Ends.{valid_in, SetsEnd, IsReadyPage, MaySetEnd, lengthened, with_file_records, EndsLaw}
 use Rattle.seg_map.proofs.EndTables.{placed-page, first-page-of, files-end, table-beside, place-was, place-now, name-grown, exists-end, exists-now, exists-was}
 
@@ -427,6 +429,14 @@ module _ (m : Memory) (files : FilesSeen) (f n : ℕ) (extents : List Extent) (f
       }
 
   -- LONGER.
+  -- as many pages as the new length needs, whatever disks tell
+  end-alike : (notes : Notes) (file : File) → blank_file file ≡ blank_file (old-file notes) → (ps : List Page) → length ps ≡ pages_in n → blank_file (record file { len = n; extents = extents; pages = ps }) ≡ blank_file (file_seen v notes f)
+  end-alike notes file is ps count =
+      let now = length-pages_from (file_contents (page_value v notes) f) 0 (pages_in n) in
+      (λ i. record file { len = n; extents = extents; pages = replicate (count i) zero_page })
+      ∙ ap (λ (x : File). record x { len = n; extents = extents; pages = replicate (pages_in n) zero_page }) is
+      ∙ sym (ap blank_file (new-file-is notes) ∙ (λ i. record (old-file notes) { len = n; extents = extents; pages = replicate (now i) zero_page }))
+
   longer-pages : (notes : Notes) → len ≤ n → IsFile (old-file notes) → pages_from (file_contents (page_value v notes) f) 0 (pages_in n) ≡ (old-file notes).pages ++ replicate (pages_in n - length (old-file notes).pages) zero_page
   longer-pages notes le file = same-lists (pages_from (file_contents (page_value v notes) f) 0 (pages_in n)) ((old-file notes).pages ++ replicate (pages_in n - length (old-file notes).pages) zero_page) (λ i. by_place i (cases_lt i (pages_in len)))
     where
@@ -464,6 +474,12 @@ module _ (m : Memory) (files : FilesSeen) (f n : ℕ) (extents : List Extent) (f
         pages = All-append IsPage (old-file notes).pages (replicate (pages_in n - length (old-file notes).pages) zero_page) file.pages (All-replicate IsPage (pages_in n - length (old-file notes).pages) zero_page IsPage-zero_page);
       },
     );
+    shape = λ notes file is.
+        let more = replicate (pages_in n - length file.pages) zero_page in
+        let a = length-append file.pages more in
+        let b = length-replicate (pages_in n - length file.pages) zero_page in
+        let c : length file.pages ≡ pages_in len = same-count file (old-file notes) is ∙ length-pages_from (file_contents (page_value w notes) f) 0 (pages_in len) in
+        end-alike notes file is (file.pages ++ more) (omega (arith, a, b, c, le));
   }
 
   -- SHORTER.
@@ -499,6 +515,10 @@ module _ (m : Memory) (files : FilesSeen) (f n : ℕ) (extents : List Extent) (f
       new-file-is notes ∙ ap (λ (ps : List Page). record (old-file notes) { len = n; extents = extents; pages = ps }) (shorter-pages notes less file),
       subst IsFile (short-is (with_extents_of extents (old-file notes)) less) (IsFile-file_of_length n (with_extents_of extents (old-file notes)) (record { count = file.count; pages = file.pages })),
     );
+    shape = λ notes file is.
+        let c : length file.pages ≡ pages_in len = same-count file (old-file notes) is ∙ length-pages_from (file_contents (page_value w notes) f) 0 (pages_in len) in
+        let s = shorter-count n (with_extents_of extents file) in
+        end-alike notes file is (shorter_file n (with_extents_of extents file)).pages (omega (arith, c, s, less));
   }
     where
       short-is : (file : File) → n < file.len → file_of_length n file ≡ shorter_file n file

@@ -15,7 +15,7 @@ use Rattle.seg_ops.specs.anon_slots.Slots.{count_at, is_used}
 use Rattle.seg_ops.specs.vm_types.Pages.{bytes_before}
 use Rattle.seg_ops.specs.vnode_files.Files.{vnode_at}
 use Rattle.seg_ops.specs.vnode_files.Vnode.{is_blank}
-use Rattle.seg_ops.specs.flat_model.Flat.{IsFile}
+use Rattle.seg_ops.specs.flat_model.Flat.{File, IsFile}
 use Rattle.seg_ops.specs.flat_model.GrownLaws.{zeros_between}
 use Rattle.seg_ops.specs.flat_model.Parts.{longer_file, with_extents_of}
 use Rattle.seg_ops.specs.flat_model.Words.{Page, page, pages_in, zero_page}
@@ -39,6 +39,7 @@ use Rattle.seg_map.specs.Longer.{IsBlankAbsent, IsLastReady, MayLengthen}
 use Rattle.seg_map.specs.Puts.{with_bytes_in}
 use Rattle.seg_map.specs.Wholes.{gap_zeros}
 use Rattle.seg_map.proofs.Ends.{ends_law}
+use Rattle.seg_map.proofs.Alike.{lengthened-alike, lengthened-put}
 use Rattle.seg_map.proofs.Wholes.{wholes_law, none-between, same-change}
 
 -- a blank page that no frame holds is zeros
@@ -130,6 +131,7 @@ module _ (w : World) (spaces : Spaces) (f n : ℕ) (fits : MemoryFits (memory_of
   none-lengthens none = λ files extents k.
       same-change f (memory_of w spaces) (with_file_records (memory_of w spaces) files) (lengthened extents n) (λ file. longer_file n (with_extents_of extents file))
       (λ notes nf tell file. wholes_law.longer extents n (file_seen w notes f) file le (λ old at. zeros-there notes old none file at))
+      (λ notes file is. lengthened-alike extents n file (let e : file.len ≡ len = ap (λ (x : File). x.len) is in omega (arith, e, le)))
       (ends_law.longer (memory_of w spaces) files f n extents fits k (may-end w.store refl (λ name gap. inr (none name gap))) le)
 
   -- ZEROS ARE PUT behind the end.
@@ -139,6 +141,7 @@ module _ (w : World) (spaces : Spaces) (f n : ℕ) (fits : MemoryFits (memory_of
       let v = record w { store = s } in
       same-change f (memory_of w spaces) (with_file_records (memory_of v spaces) files) (λ file. lengthened extents n (with_bytes_in (page len) (len % 4096) (gap_zeros len n) file)) (λ file. longer_file n (with_extents_of extents file))
       (λ notes nf tell file. wholes_law.gap extents n (file_seen w notes f) file le)
+      (λ notes file is. lengthened-alike extents n file (let e : file.len ≡ len = ap (λ (x : File). x.len) is in omega (arith, e, le)) ∙ sym (lengthened-put extents n (page len) (len % 4096) (gap_zeros len n) file))
       (files-then f (memory_of w spaces) (memory_of v spaces) (with_file_records (memory_of v spaces) files) (with_bytes_in (page len) (len % 4096) (gap_zeros len n)) (lengthened extents n) put
       (ends_law.longer (memory_of v spaces) files f n extents put.memory k (may-end s names (λ name gap. inl (subst (IsReadyPage v) (sym gap.last) ready))) le))
 

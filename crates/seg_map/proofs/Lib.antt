@@ -1,3 +1,4 @@
+pub mod Alike
 pub mod EndTables
 pub mod Ends
 pub mod Puts

@@ -35,12 +35,14 @@ use Rattle.seg_ops.specs.vm_world.World.{World, core_of, world_table, file_name,
 use Rattle.seg_ops.proofs.vm_world.FilePages.{page-in, page-past}
 use Rattle.seg_ops.proofs.vm_world.FileSteps.{same-lists}
 use Rattle.seg_ops.proofs.vm_world.FrameRule.{exists-page}
+use Rattle.seg_ops.proofs.vm_world.Shapes.{file-alike}
 use Rattle.seg_ops.proofs.vm_world.PageNames.{not-slot, file-apart}
 use Rattle.seg_ops.proofs.StillSteps.{KeepsFrames, KeepsRow, IsMarked, with_tables, memory_of, same-row, translation-kept, memory-kept, notes-kept, tell-kept, value-is}
 use Rattle.seg_ops.specs.vm_world.Serving.{ModifiesOnly}
 use Rattle.seg_ops.proofs.vm_world.FlatWhole.{some-inj}
 use Rattle.seg_map.specs.Ends.{IsReadyPage}
 use Rattle.seg_map.specs.Puts.{with_bytes_in}
+use Rattle.seg_map.proofs.Alike.{put-alike}
 
 module _ (w : World) (spaces : Spaces) (new : StoreSeen) (f i frame at : ℕ) (bytes : List ℕ) (fits : MemoryFits (memory_of w spaces)) (there : f < length w.files.files) (home : residence w.store (file_name f i) ≡ Home frame) (unlisted : ¬ IsListedFrame w.store frame)
     (step : new ≡ with_piece w.store frame at bytes true) (laws : Pokes w.store new (file_name f i) at bytes) (within : at + length bytes ≤ 4096) (octets : All IsByte bytes) where
@@ -177,6 +179,7 @@ module _ (w : World) (spaces : Spaces) (new : StoreSeen) (f i frame at : ℕ) (b
         pages = All-Each-changed (file_seen w notes f).pages i file.pages;
       },
     );
+    shape = λ notes file is. put-alike i at bytes file ∙ is ∙ file-alike (before notes) (after notes) (vnode_at w.files f).info;
   }
     where
       length-with_change_at : (g : Page → Page) (ps : List Page) (j : ℕ) → length (with_change_at g ps j) ≡ length ps

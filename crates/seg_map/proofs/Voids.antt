@@ -31,6 +31,7 @@ use Rattle.seg_ops.specs.vnode_files.Layout.{KeepsLayout}
 use Rattle.seg_ops.specs.vnode_files.Files.{FilesSeen, vnode_at}
 use Rattle.seg_ops.specs.vnode_files.Vnode.{VnodeSeen, no_vnode, page_blocks, is_blank, with_blank, IsSoundVnode}
 use Rattle.seg_ops.specs.flat_model.Access.{with_change_at}
+use Rattle.seg_ops.specs.flat_model.Shapes.{blank_file}
 use Rattle.seg_ops.specs.flat_model.Words.{Page, IsPage, pages_in, zero_page}
 use Rattle.seg_ops.proofs.flat_model.WellFormed.{Each, Each-All, All-Each, IsPage-zero_page}
 use Rattle.seg_ops.proofs.flat_model.Bytes.{slice_get-with_change_at, slice_get-changed_apart}
@@ -51,6 +52,7 @@ use Rattle.seg_ops.proofs.vm_world.FilePages.{page-in, page-past}
 use Rattle.seg_ops.proofs.vm_world.FileSteps.{same-lists}
 use Rattle.seg_ops.proofs.vm_world.FrameRule.{name-same, exists-same, exists-page, info-same}
 use Rattle.seg_ops.proofs.vm_world.LieAlike.{lie-alike}
+use Rattle.seg_ops.proofs.vm_world.Shapes.{file-alike}
 use Rattle.seg_ops.proofs.vm_world.PageNames.{not-slot, file-apart, below-kept}
 use Rattle.seg_ops.proofs.vm_world.StoredPages.{zeros-are}
 use Rattle.seg_ops.proofs.Fills.{Elsewhere, held-by, rewritten-same, blank-is}
@@ -61,6 +63,7 @@ use Rattle.seg_ops.proofs.StillSteps.{memory_of, value-is}
 use Rattle.seg_ops.proofs.vm_world.FlatWhole.{some-inj}
 use Rattle.seg_map.specs.Voids.{with_page_void, files_voided, VoidsPage, DropsPage}
 use Rattle.seg_map.proofs.EndTables.{lie-fit, low-disk-of}
+use Rattle.seg_map.proofs.Alike.{void-alike}
 
 module _ (w : World) (spaces : Spaces) (new : StoreSeen) (hat : HatSeen) (files : FilesSeen) (f i : ℕ) (fits : MemoryFits (memory_of w spaces)) (there : f < length w.files.files) (exists : IsTrue (page_exists w.files w.anon (file_name f i))) (g : GivesUp w.store new (file_name f i)) (d : DropsPage w.store w.hat hat (file_name f i)) (k : VoidsPage w.files files f i) where
   abbrev n : PageName
@@ -334,6 +337,9 @@ module _ (w : World) (spaces : Spaces) (new : StoreSeen) (hat : HatSeen) (files 
         pages = All-Each IsPage (with_change_at (λ old. zero_page) (file_seen w notes f).pages i) (go (file_seen w notes f).pages i (Each-All IsPage (file_seen w notes f).pages file.pages));
       },
     );
+    shape = λ notes file is.
+        void-alike i file ∙ is ∙ file-alike (before notes) (after notes) (vnode_at w.files f).info
+        ∙ sym (ap (λ (x : FileInfo). blank_file (file_with_pages (after notes) x)) info-is);
   }
     where
       modes : map mode_of files.files ≡ map mode_of w.files.files

@@ -14,10 +14,12 @@ use Rattle.seg_ops.specs.flat_model.Flat.{File, IsFile}
 use Rattle.seg_ops.specs.flat_model.GrownLaws.{zeros_between}
 use Rattle.seg_ops.specs.flat_model.LineLaws.{page_front}
 use Rattle.seg_ops.specs.flat_model.Parts.{longer_file, shorter_file, with_part, with_extents_of}
+use Rattle.seg_ops.specs.flat_model.Shapes.{blank_file}
 use Rattle.seg_ops.specs.flat_model.Words.{Page, IsPage, page, pages_in, zero_page, with_bytes}
 use Rattle.seg_ops.proofs.flat_model.Bytes.{slice_get-with_change_at, slice_get-changed_apart}
 use Rattle.seg_ops.proofs.flat_model.Grown.{grown_pages_law, slice_get-append_left as got-left, slice_get-append_right as got-right}
 use Rattle.seg_ops.proofs.flat_model.Lines.{lines_in_pages_law}
+use Rattle.seg_ops.proofs.flat_model.ShapeSteps.{part-like}
 use Rattle.seg_ops.proofs.flat_model.WellFormed.{Each, Each-All, All-Each, IsFile-longer_file, IsPage-zero_page}
 use Rattle.seg_ops.specs.vm_world.FileSteps.{ChangesFile, file_seen}
 use Rattle.seg_ops.specs.vm_world.FlatMemory.{Memory}
@@ -31,6 +33,7 @@ use Rattle.seg_map.specs.Ends.{lengthened}
 use Rattle.seg_map.specs.Puts.{with_bytes_in}
 use Rattle.seg_map.specs.Voids.{with_page_void}
 use Rattle.seg_map.specs.Wholes.{gap_zeros, WholesLaw, PartLaw}
+use Rattle.seg_map.proofs.Alike.{part-alike, put-alike, seen-count, short-alike}
 use Rattle.seg_map.proofs.Ends.{got-replicate}
 
 -- A PART.
@@ -176,8 +179,9 @@ shorter-void n i file is past = ap (λ (ps : List Page). record file { len = n; 
         go (p ∷ ps) zero e = (IsPage-zero_page, e.1)
         go (p ∷ ps) (suc j) e = (e.0, go ps j e.1)
 
-pub same-change : (f : ℕ) (u v : Memory) (g h : File → File) → ((notes : Notes) → NotesFit u.world notes → AllTell u.world notes → IsFile (file_seen u.world notes f) → g (file_seen u.world notes f) ≡ h (file_seen u.world notes f)) → ChangesFile f u v g → ChangesFile f u v h
-same-change f u v g h same c = record {
+pub same-change : (f : ℕ) (u v : Memory) (g h : File → File) → ((notes : Notes) → NotesFit u.world notes → AllTell u.world notes → IsFile (file_seen u.world notes f) → g (file_seen u.world notes f) ≡ h (file_seen u.world notes f))
+    → ((notes : Notes) (file : File) → blank_file file ≡ blank_file (file_seen u.world notes f) → blank_file (h file) ≡ blank_file (g file)) → ChangesFile f u v g → ChangesFile f u v h
+same-change f u v g h same alike c = record {
   machine = c.machine;
   spaces = c.spaces;
   maps = c.maps;
@@ -188,6 +192,7 @@ same-change f u v g h same c = record {
   tells = c.tells;
   others = c.others;
   file = λ notes nf tell file. let x = c.file notes nf tell file in let e = same notes nf tell file in (x.0 ∙ e, subst IsFile e x.1);
+  shape = λ notes file is. alike notes file is ∙ c.shape notes file is;
 }
 
 len-kept : (file : File) (n : ℕ) → n ≤ file.len → (longer_file n file).len ≡ file.len
@@ -231,6 +236,12 @@ part-within f offset line extents u v fits lt one below grown = same-change f u 
     let own : extents ≡ file.extents = grown-none u.world.files f (pages_in (offset + length line)) extents kept grown in
     ap (with_bytes_in (page offset) (offset % 4096) line) (sym (longer-short (offset + length line) file is below))
     ∙ part file offset line is one ∙ ap (λ (es : List Extent). with_part offset line (record file { extents = es })) (sym own))
+    (λ notes file is.
+    let kept : pages_in (offset + length line) ≤ page_count (vnode_at u.world.files f).info.extents = let w = (fits.files.each f lt).within in omega (arith, w, below) in
+    let own : extents ≡ file.extents = grown-none u.world.files f (pages_in (offset + length line)) extents kept grown ∙ sym (ap (λ (x : File). x.extents) is) in
+    let len : file.len ≡ (vnode_at u.world.files f).info.length = ap (λ (x : File). x.len) is in
+    ap (λ (es : List Extent). blank_file (with_part offset line (record file { extents = es }))) own ∙ part-like offset line file
+    ∙ short-alike (offset + length line) file (omega (arith, len, below)) (seen-count u.world notes f file is) ∙ sym (put-alike (page offset) (offset % 4096) line file))
 
 part-grows : (f offset : ℕ) (line : List ℕ) (extents : List Extent) (u v w x : Memory) → offset % 4096 + length line ≤ 4096
     → ChangesFile f u v (λ file. longer_file (offset + length line) (with_extents_of extents file)) → ChangesFile f v w (λ file. file)
@@ -239,6 +250,7 @@ part-grows f offset line extents u v w x one a b c =
     let n = offset + length line in
     same-change f u x (λ file. with_bytes_in (page offset) (offset % 4096) line (longer_file n (with_extents_of extents file))) (λ file. with_part offset line (with_extents_of extents file))
     (λ notes nf tell is. part (with_extents_of extents (file_seen u.world notes f)) offset line (record { count = is.count; pages = is.pages }) one)
+    (λ notes file is. part-alike offset line (with_extents_of extents file))
     (files-then f u w x (λ file. longer_file n (with_extents_of extents file)) (with_bytes_in (page offset) (offset % 4096) line)
     (files-then f u v w (λ file. longer_file n (with_extents_of extents file)) (λ file. file) a b) c)
 

@@ -4,16 +4,17 @@ use Rattle.seg_ops.specs.vnode_files.declared.extent.Extent.{Extent}
 use Rattle.seg_ops.specs.vnode_files.Files.{vnode_at}
 use Rattle.seg_ops.specs.flat_model.Flat.{File, IsFile}
 use Rattle.seg_ops.specs.flat_model.Parts.{longer_file, shorter_file, file_of_length, with_extents_of}
+use Rattle.seg_ops.specs.flat_model.Shapes.{blank_file}
 use Rattle.seg_ops.specs.flat_model.Words.{page, page_size, pages_in}
 use Rattle.seg_ops.specs.vm_world.FileSteps.{ChangesFile}
 use Rattle.seg_ops.specs.vm_world.FlatMemory.{Memory}
 use Rattle.seg_map.specs.Puts.{with_bytes_in}
 use Rattle.seg_map.specs.Voids.{with_page_void}
 
--- A change of a file that only touches what lies past an end: the file that is cut there is the same, as long as it was, and well formed.
+-- A change of a file that only touches what lies past an end: the file that is cut there is the same; it differs in bytes alone from what it was; and it is well formed.
 pub record IsPastEnd (n : ℕ) (g : File → File) : Type 0 where
   pub cut : (file : File) → IsFile file → shorter_file n (g file) ≡ shorter_file n file
-  pub len : (file : File) → (g file).len ≡ file.len
+  pub alike : (file : File) → blank_file (g file) ≡ blank_file file
   pub whole : (file : File) → IsFile file → IsFile (g file)
 
 -- A page past an end may be given up, and zeros put behind the end in its page; and one such change comes after another. A file that loses what lies past a

@@ -7,6 +7,7 @@ use Rattle.seg_ops.specs.vm_types.Pages.{bytes_before}
 use Rattle.seg_ops.specs.flat_model.Flat.{File, IsFile}
 use Rattle.seg_ops.specs.flat_model.GrownLaws.{zeros_between}
 use Rattle.seg_ops.specs.flat_model.Parts.{longer_file, shorter_file, with_part, with_extents_of}
+use Rattle.seg_ops.specs.flat_model.Shapes.{blank_file}
 use Rattle.seg_ops.specs.flat_model.Words.{Page, page, page_size, pages_in}
 use Rattle.seg_ops.specs.vm_world.FileSteps.{ChangesFile, file_seen}
 use Rattle.seg_ops.specs.vm_world.FlatMemory.{Memory}
@@ -33,8 +34,9 @@ pub record WholesLaw : Type 0 where
   pub gap : (extents : List Extent) (n : ℕ) (file : File) → IsFile file → file.len ≤ n
       → lengthened extents n (with_bytes_in (page file.len) (file.len % page_size) (gap_zeros file.len n) file) ≡ longer_file n (with_extents_of extents file)
   pub void : (n i : ℕ) (file : File) → IsFile file → pages_in n ≤ i → shorter_file n (with_page_void i file) ≡ shorter_file n file
-  -- A change that is said by one function of the file may be said by another that gives the same.
+  -- A change that is said by one function of the file may be said by another that gives the same, and the same but for bytes whatever disks tell.
   pub same : (f : ℕ) (u v : Memory) (g h : File → File) → ((notes : Notes) → NotesFit u.world notes → AllTell u.world notes → IsFile (file_seen u.world notes f) → g (file_seen u.world notes f) ≡ h (file_seen u.world notes f))
+      → ((notes : Notes) (file : File) → blank_file file ≡ blank_file (file_seen u.world notes f) → blank_file (h file) ≡ blank_file (g file))
       → ChangesFile f u v g → ChangesFile f u v h
   pub short : (n : ℕ) (file : File) → IsFile file → n ≤ file.len → longer_file n file ≡ file
 
