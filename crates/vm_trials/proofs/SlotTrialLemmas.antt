@@ -38,7 +38,7 @@ use Rattle.seg_ops.proofs.vm_world.Counting.{adds, adds-other}
 use Rattle.seg_ops.proofs.vm_world.SegmentSteps.{segment_rule}
 use Rattle.seg_ops.proofs.vm_world.Spaces.{map-empty, entries-empty}
 use Rattle.flat_model.specs.Flat.{Flat}
-use Rattle.seg_ops.specs.vm_world.CallSteps.{ChangesMemory}
+use Rattle.seg_ops.specs.vm_world.CallSteps.{TurnsMemory}
 use Rattle.seg_ops.specs.Empties.{IsUnloadedZero, OwnsPlaces}
 use Rattle.seg_ops.specs.Slots.{OwnsAlone}
 use Rattle.vm_trials.specs.SlotTrials.{holding_segment, holding_page, holding_part, holding_spaces, holding_map, holding_maps, holding_slots, HoldsOne, object_segment, object_part, object_spaces}
@@ -263,7 +263,7 @@ holding-unloaded f None found e none = refl
 holding-unloaded f (Some x) found e none = absurd (let z : true ≡ false = sym (ap (λ r. is_some r) e) ∙ none in cc)
 
 -- A CHANGE OF MEMORY leaves a world that fits.
-pub holding-changes : {means : Flat → Flat → Type 0} (p : ℕ) (u v : World) → IsTrialIn holding_spaces u → ChangesMemory p (memory_of u holding_spaces) (memory_of v holding_spaces) means → IsTrialIn holding_spaces v
+pub holding-changes : {after : Flat → Flat} {means : Flat → Flat → Type 0} (p : ℕ) (u v : World) → IsTrialIn holding_spaces u → TurnsMemory p (memory_of u holding_spaces) (memory_of v holding_spaces) after means → IsTrialIn holding_spaces v
 holding-changes p u v t c = record { memory = c.memory; notes = c.notes no_notes t.notes }
 
 -- the places of a map
@@ -346,5 +346,5 @@ object-unloaded w t first second third = record {
         t.memory.segments.holders 2
         ∙ ap (λ (es : List (ℕ × List (Part Segment))). sum_by (times_had 2) (flat_map (λ (ps : List (Part Segment)). map (λ (x : Part Segment). x.piece) ps) (map (λ e. e.1) es))) object-entries
 
-pub object-changes : {means : Flat → Flat → Type 0} (p : ℕ) (u v : World) → IsTrialIn object_spaces u → ChangesMemory p (memory_of u object_spaces) (memory_of v object_spaces) means → IsTrialIn object_spaces v
+pub object-changes : {after : Flat → Flat} {means : Flat → Flat → Type 0} (p : ℕ) (u v : World) → IsTrialIn object_spaces u → TurnsMemory p (memory_of u object_spaces) (memory_of v object_spaces) after means → IsTrialIn object_spaces v
 object-changes p u v t c = record { memory = c.memory; notes = c.notes no_notes t.notes }
