@@ -269,13 +269,17 @@ fn hands_push(trial: &mut Trial) -> Result<(), Fail> {
     )
 }
 
-/// Two seats want one page, and one disk.
+/// Two seats want one page, and one disk. A signal that is due at a page that moves is told, and nobody waited for.
 fn seats_want_one_page(trial: &mut Trial) -> Result<(), Fail> {
     make_all(
         trial,
         &[
             (Do(1, Map(0x2000, 0x8000, true, 0, 0)), Done(Mapped(0x2000))),
             (Try(1, Load(0x3000)), Sent),
+            (Try(0, Load(0x1_1002)), ALIGN),
+            (Do(0, Protect(0x1_1000, 0x1000, false)), STORED),
+            (Try(0, Store(0x1_1000, 9)), PROT),
+            (Do(0, Protect(0x1_1000, 0x1000, true)), STORED),
             (Try(0, Load(0x1_1000)), Busy(Hold::Page(1))),
             (Try(0, Load(0x1_2000)), Busy(Hold::Disk(1))),
             (Try(0, Load(0x1_0000)), Done(Word(1))),
@@ -602,7 +606,7 @@ pub(crate) fn made_and_closed(alloc: Global, acts: Acts) -> Result<Outcome, Fail
 fn two_processes_use_files_through_few_frames(rt: HostRuntime) -> Result<(), Fail> {
     let due = Outcome {
         fault: None,
-        entries: 105,
+        entries: 109,
         faults: (Some(2), Some(0)),
         wrong: None,
     };
