@@ -209,13 +209,13 @@ module _ (files : List OpenedFile) (disks : List (ℕ × DiskSeen)) (swap : Opti
         let none = zeros-none s.memory.spaces place (shape_of s.memory).lengths empty-spaces in
         let spaces = spaces-are s.memory.spaces s.parents place k.opening.memory.spaces ∙ ap (λ (l : List ℕ). finite.from_entries (map (λ (p : ℕ). (p, finite.empty)) (top_processes 1 l))) parents in
         let born = born-is s.born s.parents k.opening.born ∙ ap (λ (l : List ℕ). set.from_list (top_processes 1 l)) parents in
-        same-shape {F = flat_memory s.memory s.born notes} {G = opening_flat plan sizes files} slots sized all none spaces born;
+        same-shape (flat_memory s.memory s.born notes) (opening_flat plan sizes files) slots sized all none spaces born;
     refusals = λ i e at own. absurd (let z : ◌≡◌ {A = Option Entry} None (Some e) = sym (ap (λ (H : List Entry). slice_get H i) k.opening.history) ∙ at in cc);
   }
     where
       -- field by field
-      same-shape : {F G : Flat} → F.slots ≡ G.slots → F.disks ≡ G.disks → map blank_file F.files ≡ map blank_file G.files → F.zeros ≡ G.zeros → F.spaces ≡ G.spaces → F.born ≡ G.born → SameShape F G
-      same-shape slots disks files zeros spaces born = λ i. record { slots = slots i; disks = disks i; files = files i; zeros = map_with blank_pages (zeros i); spaces = map_with blank_space (spaces i); born = born i }
+      same-shape : (F G : Flat) → F.slots ≡ G.slots → F.disks ≡ G.disks → map blank_file F.files ≡ map blank_file G.files → F.zeros ≡ G.zeros → F.spaces ≡ G.spaces → F.born ≡ G.born → SameShape F G
+      same-shape F G slots disks files zeros spaces born = λ i. record { slots = slots i; disks = disks i; files = files i; zeros = map_with blank_pages (zeros i); spaces = map_with blank_space (spaces i); born = born i }
 
   pub started-fits : (plan : PlanSeen) (sizes : List (ℕ × ℕ)) → s.parents ≡ plan.parents → length s.memory.world.anon.counts ≡ (amounts_of plan.setup).slots
       → s.memory.world.files.disks ≡ finite.from_entries sizes
