@@ -1,6 +1,6 @@
 -- Calls that are done at once, with a plain reply.
 use Rattle.seg_vn.proofs.flat_model.Frames.{or_nothing as or-false}
-use Rattle.std.proofs.Common.{◌≡◌, ℕ, true, false, List, Option, refl, sym, ap, inr, subst}
+use Rattle.std.proofs.Common.{◌≡◌, ℕ, true, false, List, Option, refl, sym, ap, ◌∙◌, inr, subst}
 use Rattle.std.specs.FinMap as finite
 use Rattle.std.specs.FinSet as set
 use Rattle.std.specs.Ordering.{nat_cmp}

@@ -27,7 +27,7 @@ use Rattle.seg_vn.specs.flat_model.Step.{effect}
 use Rattle.seg_vn.specs.flat_model.Words.{page, pages_in}
 use Rattle.seg_vn.specs.flat_model.Shapes.{RespectsShape, SameShape}
 use Rattle.seg_vn.proofs.flat_model.ShapeSteps.{range-same}
-use Rattle.seg_vn.proofs.flat_model.Shapes.{same-cells, same-number, same-space}
+use Rattle.seg_vn.proofs.flat_model.Shapes.{same-cells, same-number, same-space as space-alike}
 use Rattle.seg_vn.proofs.flat_model.Ranges.{in_range-is, get-insert, get-insert_here, get-insert_apart}
 use Rattle.seg_vn.specs.vm_world.CountsFit.{ObjectFits, slots_for_part}
 use Rattle.seg_vn.specs.vm_world.FlatMemory.{Memory, flat_memory, zero_maps}
@@ -73,7 +73,7 @@ changes-as p u v w first second both respects one two same =
 -- cells that come where others go respect shapes
 range-respects : (p first n : ℕ) (cell : ℕ → Cell) → RespectsShape (λ F. with_new_cells (with_space F p (without_range (cells_of F p) first n)) p first n cell)
 range-respects p first n cell F G same = cells-respects p first n cell (with_space F p (without_range (cells_of F p) first n)) (with_space G p (without_range (cells_of G p) first n))
-    (same-space F G p (without_range (cells_of F p) first n) (without_range (cells_of G p) first n) same (range-same (cells_of F p) (cells_of G p) first n (same-cells F G p same)))
+    (space-alike F G p (without_range (cells_of F p) first n) (without_range (cells_of G p) first n) same (range-same (cells_of F p) (cells_of G p) first n (same-cells F G p same)))
 
 -- a process whose parts changed is alive with the new ones
 pub fits-after : (p : ℕ) (m : Memory) (w : World) (spaces : Spaces) (parts : List (Part Segment)) (zeros : List (Option ℕ)) (f : Flat → Flat) → ChangesSpace p m (record { world = w; spaces = finite.insert spaces p parts }) zeros f → SpaceFits w zeros (finite.insert spaces p parts) p parts
