@@ -19,7 +19,7 @@ use Rattle.seg_vn.specs.vm_types.declared.call.Place.TheVariants.{At}
 use Rattle.seg_vn.specs.vm_types.declared.call.Reply.{Reply}
 use Rattle.seg_vn.specs.vm_types.declared.call.Reply.TheVariants.{Refused, Mapped}
 use Rattle.seg_vn.specs.flat_model.Access.{with_space}
-use Rattle.seg_vn.specs.flat_model.Flat.{Flat, without_unnamed}
+use Rattle.seg_vn.specs.flat_model.Flat.{Cell, Flat, without_unnamed}
 use Rattle.seg_vn.specs.flat_model.Mapping.{cells_of, new_number, object_for, own_for, prot_read_write, with_object, without_pages, with_mapping}
 use Rattle.seg_vn.specs.flat_model.Refusals.{or_refused}
 use Rattle.seg_vn.specs.flat_model.Space.{is_in_range, without_range, with_cells}
