@@ -1,8 +1,8 @@
 -- A walk from the back over the pieces of a range: what it has counted, and when it ends.
-use Rattle.std.proofs.Common.{◌≡◌, ℕ, ◌+◌, ◌<◌, ◌≤◌, Bool, true, false, cond, List, length, Some, sym, ap, ◌∙◌, inl, inr, arith, get_or, set, replicate}
+use Rattle.std.proofs.Common.{◌≡◌, ℕ, ◌+◌, ◌<◌, ◌≤◌, Bool, true, false, cond, length, ap, inl, inr, arith, get_or, replicate}
 use Rattle.std.specs.Prelude.{nat_le}
-use Rattle.std.proofs.lemmas.Bool.{cases_Bool, cases_eq, cases_lt, eq-eqb, ne_eqb, leb-true, and_parts}
-use Rattle.std.proofs.lemmas.List.{get_or-replicate, get_or_past, get_or-set_same, get_or-set_other, length-replicate}
+use Rattle.std.proofs.lemmas.Bool.{cases_Bool, cases_lt, leb-true, and_parts}
+use Rattle.std.proofs.lemmas.List.{get_or-replicate, get_or_past, length-replicate}
 use Rattle.seg_vn.specs.vm_types.declared.call.Kind.{Kind}
 use Rattle.seg_vn.specs.vm_types.declared.call.Kind.TheVariants.{Shared, Private}
 use Rattle.seg_vn.specs.addr_space.Space.{Part}
