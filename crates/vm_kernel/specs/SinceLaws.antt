@@ -34,6 +34,7 @@ since-then opening s t seats seat before after was at event = record {
   fits = λ F fit. event.fits F seats at (was.fits F fit);
   fixed = event.fixed ∙ was.fixed;
   sizes = λ number. event.sizes was.starts.0 seats at (was.fits was.starts.0 was.starts.1) number ∙ was.sizes number;
+  follows = λ F so. event.follows F (was.follows F so);
 }
 
 pub state_keeps : (opening s t : KernelState) (notes : List (Option Sent)) (k : ℕ) (n m : Option Sent) → IsSinceOpening opening s notes → get_elem? notes k ≡ some n → Moves k s n t m → IsSinceOpening opening t (slice_set notes k m)
