@@ -10,7 +10,8 @@ use Rattle.vm_core.specs.addr_space.Space.{Part}
 use Rattle.volume_files.specs.block_device.DiskSeen.{DiskSeen, HasBlocks, AreBlocks}
 use Rattle.volume_files.specs.vm_types.declared.call.Entry.{Entry}
 use Rattle.volume_files.specs.flat_model.Flat.{Flat}
-use Rattle.volume_files.specs.flat_model.Shapes.{SameShape, blank_file, blank_pages, blank_space, map_with}
+use Rattle.volume_files.specs.flat_model.History.{replay}
+use Rattle.volume_files.specs.flat_model.Shapes.{SameShape, blank_file, blank_pages, blank_space, map_with, without_bytes}
 use Rattle.volume_files.specs.flat_model.Words.{Page, pages_in, zero_page}
 use Rattle.volume_files.proofs.flat_model.FileBytes.{Whole, length-pages_of_bytes}
 use Rattle.vm_core.specs.page_store.Bays.{BaySeen, home}
@@ -209,7 +210,8 @@ module _ (files : List OpenedFile) (disks : List (ℕ × DiskSeen)) (swap : Opti
         let none = zeros-none s.memory.spaces place (shape_of s.memory).lengths empty-spaces in
         let spaces = spaces-are s.memory.spaces s.parents place k.opening.memory.spaces ∙ ap (λ (l : List ℕ). finite.from_entries (map (λ (p : ℕ). (p, finite.empty)) (top_processes 1 l))) parents in
         let born = born-is s.born s.parents k.opening.born ∙ ap (λ (l : List ℕ). set.from_list (top_processes 1 l)) parents in
-        same-shape (flat_memory s.memory s.born notes) (opening_flat plan sizes files) slots sized all none spaces born;
+        same-shape (flat_memory s.memory s.born notes) (opening_flat plan sizes files) slots sized all none spaces born
+        ∙ ap (λ (H : List Entry). without_bytes (replay (opening_flat plan sizes files) H)) (sym k.opening.history);
     refusals = λ i e at own. absurd (let z : ◌≡◌ {A = Option Entry} None (Some e) = sym (ap (λ (H : List Entry). slice_get H i) k.opening.history) ∙ at in cc);
   }
     where
