@@ -16,8 +16,7 @@ use Rattle.volume_files.specs.flat_model.Flat.{File, Space}
 use Rattle.volume_files.specs.flat_model.Parts.{pages_of_bytes}
 use Rattle.volume_files.specs.flat_model.Words.{Page, pages_in}
 use Rattle.volume_files.proofs.flat_model.FileBytes.{Whole}
-use Rattle.vm_core.specs.page_hash.Names.{name_at, find}
-use Rattle.vm_core.specs.page_hash.declared.PageName.{PageName}
+use Rattle.vm_core.specs.page_hash.Names.{name_at}
 use Rattle.vm_core.specs.page_store.Bays.{block_of}
 use Rattle.vm_core.specs.page_store.Bytes.{clip}
 use Rattle.vm_core.specs.page_store.Layout.{page_place}

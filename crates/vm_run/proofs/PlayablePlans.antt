@@ -1,7 +1,7 @@
 -- A plan that may be played may be played with the numbers of its files.
 use Rattle.std.specs.Prelude.{ℕ, ◌≡◌, ◌<◌, ◌+◌, ◌^◌, ◌||◌, not, nat_lt, Bool, true, false, List, [], ◌∷◌, length, map, if◌then◌else◌}
 use Rattle.std.specs.List.{list_all, list_any}
-use Rattle.std.proofs.lemmas.Bool.{and_parts, and_from, both_ways, not-false, or_parts as or_false}
+use Rattle.std.proofs.lemmas.Bool.{and_parts, and_from, not-false, or_parts as or_false}
 use Rattle.std.proofs.Common.{ap, ◌∙◌, sym, subst, refl, arith}
 use Rattle.std.proofs.lemmas.List.{map-append, length-map}
 use Rattle.std.proofs.lemmas.List.Elements.{All-map, All-weaker}

@@ -11,7 +11,6 @@ use Rattle.std.proofs.lemmas.Bool.Decides.{nat_tests}
 use Rattle.std.proofs.lemmas.List.Sums.{sum_by-cons}
 use Rattle.volume_files.specs.block_device.RackSeen.{spec_number}
 use Rattle.volume_files.specs.block_device.declared.rack.Spec.{Spec}
-use Rattle.volume_files.specs.block_device.declared.rack.Spec.TheVariants as spec
 use Rattle.vm_core.specs.page_store.Bays.{AreNumbers}
 use Rattle.volume_files.specs.vm_script.declared.plan.SetupAct.{SetupAct}
 use Rattle.volume_files.specs.vm_script.declared.plan.SetupAct.TheVariants as given

@@ -14,7 +14,7 @@ use Rattle.volume_files.specs.flat_model.History.{replay}
 use Rattle.volume_files.specs.flat_model.Shapes.{SameShape, blank_file, blank_pages, blank_space, map_with, without_bytes}
 use Rattle.volume_files.specs.flat_model.Words.{Page, pages_in, zero_page}
 use Rattle.volume_files.proofs.flat_model.FileBytes.{Whole, length-pages_of_bytes}
-use Rattle.vm_core.specs.page_store.Bays.{BaySeen, home}
+use Rattle.vm_core.specs.page_store.Bays.{BaySeen}
 use Rattle.vm_core.specs.page_store.New.{AreHome}
 use Rattle.vm_core.specs.page_store.Notes.{no_notes}
 use Rattle.vm_core.specs.page_store.Value.{content_of, content_in_bay, tells}
