@@ -26,7 +26,7 @@ const GAP: &[u8] =
 
 // A page at each multiple of 0x8000000.
 const NO_ROOM: &[u8] =
-    b"disk 0 blank 8\nfile a ro 0 1 68656c6c6f\nprocess\nmap 0x8000000 4096 r shared a 0\nmap 0x10000000 4096 r shared a 0\nmap 0x18000000 4096 r shared a 0\nmap 0x20000000 4096 r shared a 0\nmap 0x28000000 4096 r shared a 0\nmap 0x30000000 4096 r shared a 0\nmap 0x38000000 4096 r shared a 0\nmap 0x40000000 4096 r shared a 0\nmap 0x48000000 4096 r shared a 0\nmap 0x50000000 4096 r shared a 0\nmap 0x58000000 4096 r shared a 0\nmap 0x60000000 4096 r shared a 0\nmap 0x68000000 4096 r shared a 0\nmap 0x70000000 4096 r shared a 0\nmap 0x78000000 4096 r shared a 0\nmap any 0x8000000 r shared a 0\nmap any 0x8000000 rw private zero 0\nmap any 0x8000000 rw shared a 0\nmap any 0x7fff000 rw private zero 0\nmap any 0xffffffff r shared a 0\nmap any 0x7fff000 r shared a 0\nend\n";
+    b"disk 0 blank 8\nfile a ro 0 1 68656c6c6f\nprocess\nmap 0x8000000 4096 r shared a 0\nmap 0x10000000 4096 r shared a 0\nmap 0x18000000 4096 r shared a 0\nmap 0x20000000 4096 r shared a 0\nmap 0x28000000 4096 r shared a 0\nmap 0x30000000 4096 r shared a 0\nmap 0x38000000 4096 r shared a 0\nmap 0x40000000 4096 r shared a 0\nmap 0x48000000 4096 r shared a 0\nmap 0x50000000 4096 r shared a 0\nmap 0x58000000 4096 r shared a 0\nmap 0x60000000 4096 r shared a 0\nmap 0x68000000 4096 r shared a 0\nmap 0x70000000 4096 r shared a 0\nmap 0x78000000 4096 r shared a 0\nmap any 0x8000000 r shared a 0\nmap any 0x8000000 rw private zero 0\nmap any 0x8000000 rw shared a 0\nmap any 0x7fff000 rw private zero 0\nmap any 0x7fff000 r shared a 0\nmap any 0xffffffff r shared a 0\nend\n";
 
 // A page is pushed by the sync that its store is followed by.
 const SYNC: &[u8] =
@@ -67,7 +67,7 @@ const RUNS: [(&[u8], &[u8]); 8] = [
     ),
     (
         NO_ROOM,
-        b"process 1\n4 map 0x08000000\n5 map 0x10000000\n6 map 0x18000000\n7 map 0x20000000\n8 map 0x28000000\n9 map 0x30000000\n10 map 0x38000000\n11 map 0x40000000\n12 map 0x48000000\n13 map 0x50000000\n14 map 0x58000000\n15 map 0x60000000\n16 map 0x68000000\n17 map 0x70000000\n18 map 0x78000000\n19 map error 4 NoRoom\n20 map error 4 NoRoom\n21 map error 2 Access\n22 map error 3 NoSwap\n23 map error 5 TooLarge\n24 map 0x00001000\n25 exit ok\nfile a 5\n00000000 68656c6c6f\n",
+        b"process 1\n4 map 0x08000000\n5 map 0x10000000\n6 map 0x18000000\n7 map 0x20000000\n8 map 0x28000000\n9 map 0x30000000\n10 map 0x38000000\n11 map 0x40000000\n12 map 0x48000000\n13 map 0x50000000\n14 map 0x58000000\n15 map 0x60000000\n16 map 0x68000000\n17 map 0x70000000\n18 map 0x78000000\n19 map error 4 NoRoom\n20 map error 4 NoRoom\n21 map error 2 Access\n22 map error 3 NoSwap\n23 map 0x00001000\n24 map error 5 TooLarge\n25 exit ok\nfile a 5\n00000000 68656c6c6f\n",
     ),
     (
         SYNC_OF_BOTH,
