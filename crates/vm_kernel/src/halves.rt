@@ -1,5 +1,5 @@
 //! The two halves of a turn: a try, with the transfer that it needs, and the end of that transfer.
-ghost use Rattle.std.specs.Prelude.{◌≡◌, ◌≤◌, ◌+◌, ℕ, Some, None, length, IfOk, OnErr};
+ghost use Rattle.std.specs.Prelude.{◌≡◌, ◌<◌, ◌≤◌, ◌+◌, ℕ, Some, None, length, IfOk, OnErr};
 ghost use Rattle.kernel_lock.specs.Seats.{IsSeatOf};
 ghost use Rattle.vm_core.specs.vm_types.declared.call.Call as calls;
 ghost use Rattle.vm_kernel.specs.Callers.{IsIdle};
@@ -144,6 +144,7 @@ pub(crate) fn move_at<R: Wait, D: Disk>(
     ensures none { (sent.new ≡ None) × (seat.new.note ≡ None) }
     ensures goes { CallerGoesOn (caller_at seat.old process) (caller_at seat.new process) }
     ensures own { seat.new.own ≡ seat.old.own }
+    ensures leaves { seat.old.leaves < seat.new.leaves }
 {
     let state = lock.enter(rt, seat);
     hand_and_leave(lock, seat, state, sent);

@@ -1,5 +1,5 @@
 //! The kernel for threads: one state behind one lock, shared by reference, and callers that are handed to threads by value.
-ghost use Rattle.std.specs.Prelude.{◌≡◌, None, IfOk, OnErr};
+ghost use Rattle.std.specs.Prelude.{◌≡◌, ◌<◌, ◌≤◌, ◌+◌, None, IfOk, OnErr};
 ghost use mathlib.Core.List.{IsPrefix};
 ghost use Rattle.vm_kernel.specs.Callers.{IsCallerOf};
 ghost use Rattle.vm_kernel.specs.Turns.{MayCall, CallerGoesOn, IsTurn, IsCallDone, LacksMemory, HasSeenMore};
@@ -130,6 +130,7 @@ impl<D: Disk> VmKernel<D> {
         ensures goes { CallerGoesOn caller.old caller.new }
         ensures same { caller.new.seat.own ≡ caller.old.seat.own }
         ensures free { caller.new.seat.note ≡ None }
+        ensures leaves { caller.old.seat.leaves < caller.new.seat.leaves }
     {
         move_at(
             rt,
@@ -140,7 +141,7 @@ impl<D: Disk> VmKernel<D> {
         );
     }
 
-    /// So many moves of a hand of the clock, each with the transfer that it asks for. It adds no entry and takes no memory.
+    /// So many moves of a hand of the clock, each with the transfer that it asks for. It adds no entry and takes no memory. It waits.
     pub fn pageout<R: Wait>(&self, rt: &R, caller: &mut Caller<D>, turns: u32)
         requires caller { IsCallerOf self.now caller.old }
         requires free { caller.old.seat.note ≡ None }
@@ -149,9 +150,11 @@ impl<D: Disk> VmKernel<D> {
         ensures goes { CallerGoesOn caller.old caller.new }
         ensures same { caller.new.seat.own ≡ caller.old.seat.own }
         ensures free { caller.new.seat.note ≡ None }
+        // It left the lock once for each move at least.
+        ensures leaves { caller.old.seat.leaves + turns ≤ caller.new.seat.leaves }
     {
         caller.own_law();
-        for _ in 0..turns {
+        for _turn in 0..turns {
             self.move_hand(rt, caller);
         }
     }

@@ -1,14 +1,17 @@
-use Rattle.std.proofs.Common.{refl, ◌∙◌}
+use Rattle.std.proofs.Common.{refl, ◌∙◌, arith}
 use Rattle.vm_kernel.proofs.Calling.{goes-not, goes-both}
 use Rattle.vm_kernel.proofs.kernel.VmKernel.pageout.Goals as goal
 
-pub loop-init : goal.loop-init
-loop-init g c = (c.requires.caller, goes-not c.args.caller.now c.own_law.ensures.own, refl, c.requires.free)
+pub loop-turn-init : goal.loop-turn-init
+loop-turn-init g c = (c.requires.caller, goes-not c.args.caller.now c.own_law.ensures.own, refl, c.requires.free, omega arith)
 
-pub loop-preserved : goal.loop-preserved
-loop-preserved g c = (
-  c.move_hand.ensures.caller,
-  goes-both c.args.caller.now c.loop.caller c.move_hand.new.caller c.loop.invariant.1 c.move_hand.ensures.goes,
-  c.move_hand.ensures.same ∙ c.loop.invariant.2,
-  c.move_hand.ensures.free,
-)
+pub loop-turn-preserved : goal.loop-turn-preserved
+loop-turn-preserved g c =
+    let before = c.loop-turn.invariant.4 in
+    let more = c.move_hand.ensures.leaves in (
+      c.move_hand.ensures.caller,
+      goes-both c.args.caller.now c.loop-turn.caller c.move_hand.new.caller c.loop-turn.invariant.1 c.move_hand.ensures.goes,
+      c.move_hand.ensures.same ∙ c.loop-turn.invariant.2,
+      c.move_hand.ensures.free,
+      omega (arith, before, more),
+    )
