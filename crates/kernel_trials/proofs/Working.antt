@@ -8,7 +8,6 @@ use Rattle.std.proofs.lemmas.List.{length-append}
 use Rattle.std.proofs.lemmas.List.Folds.{list_any-append}
 use mathlib.Core.List.{IsPrefix}
 use Rattle.kernel_lock.specs.Seats.{newcomer}
-use Rattle.vm_core.specs.Calls.{IsServed}
 use Rattle.vm_core.specs.flat_model.Births.{is_birth, is_done, is_fork_of}
 use Rattle.vm_core.specs.flat_model.OpenLaws.{last_entry, FollowsOn, MayFollow}
 use Rattle.flat_model.proofs.Opens.{last_entry-push}
@@ -72,14 +71,6 @@ whole-turn call is = absurd is
 whole-fork : (child : ℕ) → IsWhole (Fork child)
 unfolding next_part
 whole-fork child = record { ends = λ reply. refl; stays = refl }
-
-turn-served : (call : Call) → IsTurnCall call → IsServed call
-turn-served (Load a n) is = tt
-turn-served (Store a n v) is = tt
-turn-served (Map place len prot kind object offset) is = tt
-turn-served (Unmap a len) is = tt
-turn-served (Protect a len prot) is = tt
-turn-served call is = absurd is
 
 turn-bears : (parents : List ℕ) (own : List Entry) (p : ℕ) (call : Call) → IsTurnCall call → IsNewChild parents own p call
 turn-bears parents own p (Fork child) is = absurd is
@@ -241,7 +232,6 @@ module _ (k : KernelSeen) (c : CallerSeen) (p q n : ℕ) (alive forked : Bool) (
   pub may-turn : (call : Call) → IsTurnCall call → IsWellFormed call → IsForCall p call c.seat.note → MayCall k c call
   may-turn call turn formed hand = record {
     formed = formed;
-    served = turn-served call turn;
     alive = alive-now;
     next = record { room = has-room; follows = λ reply cleared. is.follows (done_entry c.process call reply cleared); bears = turn-bears k.opening.parents c.seat.own c.process call turn };
     hand = subst (λ (x : ℕ). IsForCall x call c.seat.note) (sym is.process) hand;
@@ -250,7 +240,6 @@ module _ (k : KernelSeen) (c : CallerSeen) (p q n : ℕ) (alive forked : Bool) (
   pub may-fork : (child : ℕ) → process_parent k.opening.parents child ≡ Some p → forked ≡ false → IsWellFormed (Fork child) → c.seat.note ≡ None → MayCall k c (Fork child)
   may-fork child parent none formed free = record {
     formed = formed;
-    served = tt;
     alive = alive-now;
     next = record { room = has-room; follows = λ reply cleared. is.follows (done_entry c.process (Fork child) reply cleared); bears = (parent ∙ ap (λ (x : ℕ). Some x) (sym is.process), is.childless none child) };
     hand = subst (IsForCall c.process (Fork child)) (sym free) tt;

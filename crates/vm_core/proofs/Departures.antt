@@ -7,7 +7,6 @@ use Rattle.fault_entry.specs.page_store.Bays.{home, out}
 use Rattle.fault_entry.specs.page_store.Flight.{FlightSeen, note_of}
 use Rattle.fault_entry.specs.page_store.Steps.{next_frame}
 use Rattle.fault_entry.specs.page_store.Transfers.{is_push}
-use Rattle.fault_entry.specs.page_store.Waits.{Waits, plan_page}
 use Rattle.fault_entry.specs.page_store.declared.plan.Plan.{Plan}
 use Rattle.fault_entry.specs.page_store.declared.plan.Plan.TheVariants as plan
 use Rattle.fault_entry.specs.vm_world.Events.{IsEvent}
@@ -17,7 +16,7 @@ use Rattle.fault_entry.specs.vm_world.State.{KernelState, KeptPlan, Seats, Calle
 use Rattle.fault_entry.specs.vm_world.StateFits.{StateFits}
 use Rattle.fault_entry.specs.vm_world.StateSteps.{PendsTails, after_step}
 use Rattle.fault_entry.specs.vm_world.Wants.{MayPlan}
-use Rattle.fault_entry.specs.vm_world.World.{World, world_table}
+use Rattle.fault_entry.specs.vm_world.World.{World}
 use Rattle.fault_entry.specs.vm_world.WorldSteps.{WorldStep, leaves}
 use Rattle.fault_entry.specs.vm_world.ZeroObjects.{KnowsZeros}
 use Rattle.fault_entry.proofs.vm_world.StateSteps.{state_rule}

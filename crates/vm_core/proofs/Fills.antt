@@ -3,11 +3,11 @@ use Rattle.fault_entry.proofs.page_store.Returning.{other_block as block-other}
 use Rattle.fault_entry.proofs.seg_ops.Fills.{clip-zeros}
 use Rattle.fault_entry.proofs.seg_ops.Pushed.{infos-set, cleared}
 use Rattle.fault_entry.proofs.page_store.NewLemmas.{length-numbers}
-use Rattle.std.proofs.Common.{◌≡◌, ◌≢◌, ◌⊎◌, ℕ, zero, suc, ◌<◌, ◌≤◌, ◌-◌, ◌+◌, Bool, true, false, cond, List, [], ◌∷◌, ◌++◌, length, map, replicate, Option, Some, None, Result, Ok, Err, refl, sym, ap, ◌∙◌, inl, inr, subst, arith, length-set, get_or-set_same, get_or-set_other}
+use Rattle.std.proofs.Common.{◌≡◌, ◌≢◌, ◌⊎◌, ℕ, zero, suc, ◌<◌, ◌≤◌, Bool, true, false, cond, List, [], ◌∷◌, length, map, Option, Some, None, Result, Ok, Err, refl, sym, ap, ◌∙◌, inl, inr, subst, arith, length-set, get_or-set_same, get_or-set_other}
 use Rattle.std.specs.Prelude.{slice_index, slice_index_or, slice_set, IfErr, IsSome, IsTrue, unwrap_or}
 use Rattle.std.specs.FinMap as finite
 use Rattle.std.proofs.lemmas.Bool.{cases_eq}
-use Rattle.std.proofs.lemmas.List.{length-map, take-replicate, replicate-append-replicate}
+use Rattle.std.proofs.lemmas.List.{length-map}
 use Rattle.fault_entry.specs.block_device.DiskSeen.{DiskSeen, HasBlocks, Writes, with_block}
 use Rattle.fault_entry.specs.block_device.Faults.{IsFaultOf}
 use Rattle.fault_entry.specs.block_device.declared.disk_fault.DiskFault.{DiskFault}
@@ -17,7 +17,6 @@ use Rattle.fault_entry.specs.page_store.Bays.{no_disk, numbers_of, block_of, pai
 use Rattle.fault_entry.specs.page_store.Bytes.{clip}
 use Rattle.fault_entry.specs.page_store.Layout.{KeepsPage}
 use Rattle.fault_entry.proofs.page_store.TransferLemmas.{is-or-not}
-use Rattle.fault_entry.specs.vnode_files.declared.vnode.FileInfo.{FileInfo}
 use Rattle.fault_entry.specs.vnode_files.Files.{FilesSeen, vnode_at, with_vnode}
 use Rattle.fault_entry.specs.vnode_files.Grow.{page_count}
 use Rattle.fault_entry.specs.vnode_files.Layout.{disk_of_file, block_of_page}

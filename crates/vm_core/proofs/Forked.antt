@@ -49,7 +49,8 @@ use Rattle.vm_core.specs.Fits.{FitsAt}
 use Rattle.vm_core.specs.Forks.{after_fork, born_after, starts_after}
 use Rattle.vm_core.specs.State.{born_of, marked_processes, EachHasPlaces, IsSoundKernel}
 use Rattle.vm_core.proofs.Tops.{any-below}
-use Rattle.vm_core.proofs.Served.{kept-moved, locks-same, plain-own, seat-is, starts-dropped}
+use Rattle.vm_core.proofs.OwnFiles.{locks-same}
+use Rattle.vm_core.proofs.Served.{kept-moved, plain-own, seat-is, starts-dropped}
 
 -- WHO WAS EVER ALIVE, with one mark more
 abbrev is_marked : ℕ → List Bool → ℕ → Bool

@@ -1,14 +1,12 @@
 -- A flight comes back to the state.
-use Rattle.fault_entry.proofs.flat_model.Opens.{next_of_file as next-file}
 use Rattle.fault_entry.proofs.vm_world.FileLocks.{past-set, past-index, split}
 use Rattle.std.proofs.Common.{◌≡◌, ◌≢◌, ℕ, zero, suc, ◌-◌, ◌<◌, ◌≤◌, ◌==◌, ◌||◌, Bool, true, false, cond, List, [], ◌∷◌, length, Option, Some, None, refl, sym, ap, ◌∙◌, inl, inr, subst, arith, get_or-set_same, get_or-set_other}
-use Rattle.std.specs.Prelude.{◌↔◌, ◌⊎◌, filter, slice_index_or, slice_set, option_map, IsSomeAnd, MatchOption, MatchBool}
+use Rattle.std.specs.Prelude.{◌↔◌, filter, slice_index_or, slice_set, option_map, MatchBool}
 use Rattle.std.proofs.lemmas.Bool.{cases_eq}
 use Rattle.std.proofs.lemmas.Bool.Decides.{eqb_tells}
-use Rattle.fault_entry.specs.flat_model.Births.{is_birth}
 use Rattle.fault_entry.specs.flat_model.Counted.{top_count}
 use Rattle.fault_entry.specs.flat_model.Flat.{Flat}
-use Rattle.fault_entry.specs.flat_model.OpenLaws.{last_entry, IsOpenPart, FollowsOn, MayFollow}
+use Rattle.fault_entry.specs.flat_model.OpenLaws.{IsOpenPart, MayFollow}
 use Rattle.fault_entry.specs.flat_model.Step.{is_bit_set}
 use Rattle.fault_entry.specs.flat_model.Told.{entries_of}
 use Rattle.fault_entry.specs.page_hash.Names.{name_at}
@@ -44,7 +42,9 @@ use Rattle.fault_entry.specs.vm_world.ZeroObjects.{KnowsZeros}
 use Rattle.fault_entry.proofs.vm_world.Failures.{failure_rule}
 use Rattle.fault_entry.proofs.vm_world.StateSteps.{state_rule}
 use Rattle.vm_core.specs.Flights.{IsBack, AddsEntry}
-use Rattle.vm_core.specs.State.{calls_without, without_seat, with_next_entry, IsSoundKernel}
+use Rattle.file_calls.specs.Locks.{calls_without, without_seat}
+use Rattle.vm_core.specs.State.{with_next_entry, IsSoundKernel}
+use Rattle.vm_core.proofs.OwnFiles.{own-part}
 
 -- THE LOCK OF THE FILE. Whose call of a file is between two parts, once a seat's call of one file is over.
 other-seat : (seat t : ℕ) (o : Option ℕ) → t ≢ seat → (without_seat seat o ≡ Some t) ↔ (o ≡ Some t)
@@ -103,18 +103,12 @@ locks-after H calls syncs seat p disk before after cleared call fit is follows f
     e : Entry
     e = io_entry p call disk before after cleared
 
-    of-last : (o : Option Entry) → IsSomeAnd o (IsOpenPart f) → MatchOption o (Unit {0}) (λ d. FollowsOn d (io_entry p call disk before after cleared)) → part_file call ≡ Some f
-    of-last None here next = absurd here
-    of-last (Some d) here (inl ended) = absurd (let z : true ≡ false = sym ended ∙ here.1 in cc)
-    of-last (Some d) here (inr next) = next-file d.call d.reply next.0 call next.1 ∙ here.0
-
     by_seat : (b : Bool) → (p == suc t) ≡ b → (slice_index_or (calls_without seat (part_file call) calls) f None ≡ Some t) ↔ MatchBool b (IsOpenPart f (io_entry p call disk before after cleared)) (slice_index_or calls f None ≡ Some t)
     by_seat true own = (
       (λ h. absurd (
           let mine : t ≡ seat = elim (eqb_tells p (suc t)) [ inl y ↦ (let z : suc t ≡ suc seat = sym y.1 ∙ is in omega (arith, z)) | inr n ↦ absurd (let z : true ≡ false = sym own ∙ n.0 in cc) ] in
           let had = seat-had seat f (part_file call) calls (h ∙ ap (λ (k : ℕ). Some k) mine) in
-          let still : IsSomeAnd (last_entry p H) (IsOpenPart f) = subst (λ (q : ℕ). IsSomeAnd (last_entry q H) (IsOpenPart f)) (sym is) ((fit.files f seat).0 had.0) in
-          had.1 (of-last (last_entry p H) still follows))),
+          had.1 (own-part H calls syncs seat p cleared f call (Io disk before after) fit is follows had.0))),
       (λ h. absurd (let z : true ≡ false = sym (io-ends call disk before after) ∙ h.1 in cc)),
     )
     by_seat false other = others-stay seat f t (part_file call) calls

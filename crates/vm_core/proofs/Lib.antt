@@ -5,6 +5,7 @@ pub mod OnePush
 pub mod Finishes
 pub mod Ledgers
 pub mod Tops
+pub mod OwnFiles
 pub mod Landings
 pub mod Starts
 pub mod Departures

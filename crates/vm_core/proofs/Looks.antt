@@ -2,22 +2,20 @@
 use Rattle.fault_entry.proofs.seg_ops.Fills.{held-by as held-name}
 use Rattle.std.proofs.Common.{◌≡◌, ◌≢◌, ℕ, ◌<◌, Bool, true, false, cond, List, [], ◌∷◌, ◌++◌, length, Option, Some, None, refl, sym, ap, ◌∙◌, inl, inr, subst}
 use Rattle.std.specs.Prelude.{◌↔◌, ◌⊎◌, is_none, is_some, slice_index_or, IsSome, IfSome}
-use Rattle.std.proofs.lemmas.Bool.{eq-eqb, eqb-true, or_left as or-left}
+use Rattle.std.proofs.lemmas.Bool.{eq-eqb, eqb-true}
 use Rattle.fault_entry.specs.block_device.DiskSeen.{DiskSeen}
 use Rattle.fault_entry.specs.core_arena.Bytes.{bytes_at}
 use Rattle.fault_entry.specs.hat_layer.Pool.{frame_of, leads, drop_lead, drop_frame}
 use Rattle.fault_entry.specs.hat_layer.declared.translation.Translation.{Translation}
 use Rattle.fault_entry.specs.page_clock.Clock.{next_clock}
-use Rattle.fault_entry.specs.page_hash.Names.{name_at, find}
+use Rattle.fault_entry.specs.page_hash.Names.{find}
 use Rattle.fault_entry.specs.page_hash.declared.PageName.{PageName}
-use Rattle.fault_entry.proofs.page_hash.NameLaws.{find-at}
-use Rattle.fault_entry.specs.page_lock.Rows.{row_at, clear_row, with_bits}
+use Rattle.fault_entry.specs.page_lock.Rows.{row_at}
 use Rattle.fault_entry.specs.page_lock.declared.Row.{Row}
 use Rattle.fault_entry.specs.page_store.Bays.{BaySeen, home, out, bay_at}
 use Rattle.fault_entry.specs.page_store.Laws.{StaysInPlace}
 use Rattle.fault_entry.specs.page_store.Moves.{is_only}
 use Rattle.fault_entry.specs.page_store.Seen.{StoreSeen, IsSoundStore, IsListedFrame, residence, residence_in, residence_of}
-use Rattle.fault_entry.specs.page_store.Steps.{with_row}
 use Rattle.fault_entry.specs.page_store.Table.{PlaceTable}
 use Rattle.fault_entry.specs.page_store.Waits.{Waits, holder_of, holder_in}
 use Rattle.fault_entry.specs.page_store.declared.plan.Hold.{Hold}
@@ -25,13 +23,12 @@ use Rattle.fault_entry.specs.page_store.declared.plan.Hold.TheVariants as hold
 use Rattle.fault_entry.specs.page_store.declared.plan.Plan.{Plan}
 use Rattle.fault_entry.specs.page_store.declared.plan.Plan.TheVariants as plan
 use Rattle.fault_entry.specs.page_store.declared.residence.Residence.TheVariants.{Home}
-use Rattle.fault_entry.proofs.page_store.QueryLemmas.{home-is}
 use Rattle.fault_entry.specs.seg_ops.Plans.{IsAsked}
 use Rattle.fault_entry.specs.vm_world.Words.{KeepsPages}
 use Rattle.fault_entry.specs.vm_world.declared.wants.Wants.{Wants}
 use Rattle.fault_entry.specs.vm_world.declared.wants.Wants.TheVariants.{Transfer, Seat}
-use Rattle.fault_entry.proofs.seg_ops.Places.{index-map, index-set}
-use Rattle.fault_entry.proofs.seg_ops.StillSteps.{with_tables, memory_of, KeepsRow, same-row, step-keeps, translation-kept}
+use Rattle.fault_entry.proofs.seg_ops.Places.{index-map}
+use Rattle.fault_entry.proofs.seg_ops.StillSteps.{with_tables, memory_of, same-row, step-keeps, translation-kept}
 use Rattle.fault_entry.specs.vm_world.MemoryFits.{MemoryFits}
 use Rattle.fault_entry.specs.vm_world.Plans.{CanRunPlan}
 use Rattle.fault_entry.specs.vm_world.Segments.{Spaces}

@@ -12,7 +12,7 @@ use Rattle.fault_entry.specs.core_arena.Bytes.{zeros}
 use Rattle.fault_entry.specs.page_hash.declared.PageName.{PageName}
 use Rattle.fault_entry.specs.page_store.Bays.{BaySeen, missing, home, out, bay_at, block_of, disk_in}
 use Rattle.fault_entry.specs.page_store.Bytes.{clip}
-use Rattle.fault_entry.specs.page_store.Flight.{FlightSeen, Progress, fresh, done, failed, note_of, IsPerformed, IsWritten}
+use Rattle.fault_entry.specs.page_store.Flight.{FlightSeen, done, note_of, IsPerformed}
 use Rattle.fault_entry.specs.page_store.Notes.{Note, Notes, no_notes, with_note}
 use Rattle.fault_entry.specs.page_store.Value.{content_in_bay}
 use Rattle.fault_entry.specs.page_store.declared.place.Place.{Place}

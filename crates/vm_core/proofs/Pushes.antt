@@ -1,6 +1,6 @@
 -- Pages of files that are pushed: one after another, one that isn't modified, and one push.
-use Rattle.std.proofs.Common.{◌≡◌, ◌⊎◌, ℕ, ◌≤◌, ◌-◌, ◌*◌, ◌==◌, min, Bool, true, false, cond, List, [], Option, Some, None, Result, Ok, Err, refl, sym, ap, ◌∙◌, inl, inr, subst, arith}
-use Rattle.std.specs.Prelude.{OnOk, IsTrue, IsSome, is_some, is_none, not, nat_lt, unwrap_or, slice_index_or}
+use Rattle.std.proofs.Common.{◌≡◌, ◌⊎◌, ℕ, ◌≤◌, ◌-◌, ◌*◌, ◌==◌, min, Bool, true, false, cond, List, Option, Some, None, Result, Ok, Err, refl, sym, ap, ◌∙◌, inl, inr, subst, arith}
+use Rattle.std.specs.Prelude.{OnOk, IsTrue, IsSome, is_some, is_none, not, nat_lt, slice_index_or}
 use Rattle.std.proofs.lemmas.Bool.{lt-ltb}
 use Rattle.fault_entry.specs.block_device.DiskSeen.{DiskSeen}
 use Rattle.fault_entry.specs.block_device.declared.disk_fault.DiskFault.{DiskFault}
@@ -12,14 +12,12 @@ use Rattle.fault_entry.specs.page_lock.Rows.{row_at}
 use Rattle.fault_entry.specs.page_store.Bays.{BaySeen, missing, home, out, bay_at, block_of, disk_in}
 use Rattle.fault_entry.specs.page_store.Bytes.{clip}
 use Rattle.fault_entry.specs.page_store.Layout.{page_place}
-use Rattle.fault_entry.specs.page_store.Notes.{Note, Notes, no_notes}
-use Rattle.fault_entry.specs.page_store.Seen.{StoreSeen, IsSoundStore, IsListedFrame, residence}
-use Rattle.fault_entry.specs.page_store.Steps.{home_bytes}
-use Rattle.fault_entry.specs.page_store.Value.{value, value_in, backing_value, content_of, content_in_bay, frame_value, note_of_holder}
-use Rattle.fault_entry.specs.page_store.Table.{PlaceTable}
+use Rattle.fault_entry.specs.page_store.Notes.{Note, no_notes}
+use Rattle.fault_entry.specs.page_store.Seen.{IsSoundStore, IsListedFrame, residence}
+use Rattle.fault_entry.specs.page_store.Value.{value_in, backing_value, content_of, content_in_bay, frame_value, note_of_holder}
 use Rattle.fault_entry.specs.page_store.declared.place.Place.{Place}
 use Rattle.fault_entry.specs.page_store.declared.residence.Residence.TheVariants.{Home}
-use Rattle.fault_entry.proofs.page_store.QueryLemmas.{home-is, found-within, residence-home}
+use Rattle.fault_entry.proofs.page_store.QueryLemmas.{found-within, residence-home}
 use Rattle.fault_entry.proofs.page_store.FrameLaws.{some-or-none}
 use Rattle.fault_entry.specs.anon_slots.Slots.{is_used, count_at}
 use Rattle.fault_entry.specs.vnode_files.Files.{FilesSeen, vnode_at}

@@ -1,16 +1,14 @@
 -- A call that is served becomes an event.
-use Rattle.fault_entry.proofs.flat_model.Opens.{next_of_file as next-file}
-use Rattle.std.proofs.Common.{◌≡◌, ◌≢◌, ℕ, zero, suc, ◌-◌, ◌<◌, ◌≤◌, ◌==◌, ◌||◌, Bool, true, false, cond, List, length, Option, Some, None, refl, sym, ap, ◌∙◌, inl, inr, ◌⊎◌, subst, arith, get_or-set_same, get_or-set_other, length-set}
-use Rattle.std.specs.Prelude.{Result, Ok, Err, IfOk, OnErr, ◌↔◌, filter, slice_index_or, slice_set, IsSome, IsSomeAnd, MatchOption, MatchBool}
+use Rattle.std.proofs.Common.{◌≡◌, ◌≢◌, ℕ, zero, suc, ◌-◌, ◌<◌, ◌≤◌, ◌||◌, Bool, true, false, cond, List, length, Option, Some, None, refl, sym, ap, ◌∙◌, inl, inr, ◌⊎◌, subst, arith, get_or-set_same, get_or-set_other, length-set}
+use Rattle.std.specs.Prelude.{Result, Ok, Err, IfOk, OnErr, ◌↔◌, filter, slice_index_or, slice_set, IsSome, is_some}
 use Rattle.std.proofs.lemmas.Bool.{cases_eq}
 use Rattle.std.proofs.lemmas.List.{get_or_past}
 use Rattle.std.proofs.lemmas.Bool.Decides.{eqb_tells}
-use Rattle.fault_entry.specs.anon_slots.Slots.{count_at}
+use Rattle.fault_entry.specs.anon_slots.Slots.{AnonSlotsSeen, count_at}
 use Rattle.fault_entry.specs.core_arena.Bytes.{bytes_at}
 use Rattle.fault_entry.specs.flat_model.Births.{is_birth, is_done}
 use Rattle.fault_entry.specs.flat_model.Flat.{Flat}
 use Rattle.fault_entry.specs.flat_model.History.{IsStart}
-use Rattle.fault_entry.specs.flat_model.OpenLaws.{last_entry, IsOpenPart, FollowsOn, MayFollow}
 use Rattle.fault_entry.specs.flat_model.Told.{entries_of}
 use Rattle.fault_entry.specs.flat_model.Words.{page}
 use Rattle.fault_entry.specs.page_store.Away.{is_disk}
@@ -26,17 +24,16 @@ use Rattle.fault_entry.proofs.page_store.AwayLemmas.{away_law}
 use Rattle.fault_entry.specs.vm_types.Parts.{part_file, file_of_call}
 use Rattle.fault_entry.specs.vm_types.WellFormed.{IsWellFormed}
 use Rattle.fault_entry.specs.vm_types.declared.call.Call.{Call}
-use Rattle.fault_entry.specs.vm_types.declared.call.Call.TheVariants.{Load, Store, Map, Unmap, Protect, Sync, Exit, Fork}
+use Rattle.fault_entry.specs.vm_types.declared.call.Call.TheVariants.{Load, Store, Map, Unmap, Protect, Sync, Read, Write, Truncate, Exit, Fork}
 use Rattle.fault_entry.specs.vm_types.declared.call.Entry.{Entry}
 use Rattle.fault_entry.specs.vm_types.declared.call.Reply.{Reply}
 use Rattle.fault_entry.specs.vm_types.declared.call.Reply.TheVariants as reply
 use Rattle.fault_entry.specs.vm_types.declared.call.Reply.TheVariants.{Synced}
 use Rattle.fault_entry.specs.vm_world.CallSteps.{StaysAlive}
-use Rattle.fault_entry.specs.vm_world.EntryLaws.{LocksAfter, StartsAfter}
+use Rattle.fault_entry.specs.vm_world.EntryLaws.{LocksAfter, StartsAfter, MayUseFile}
 use Rattle.fault_entry.specs.vm_world.Events.{IsEvent, CanTry, MayBear}
 use Rattle.fault_entry.specs.vm_world.Failures.{with_entry_made}
 use Rattle.fault_entry.specs.vm_world.FlatMemory.{Memory}
-use Rattle.fault_entry.specs.vm_world.HistoryFits.{CallsFit}
 use Rattle.fault_entry.specs.vm_world.Segments.{Spaces}
 use Rattle.fault_entry.specs.vm_world.Serving.{ServesDone, ServesNeed, ServesBusy}
 use Rattle.fault_entry.specs.vm_world.ServingLaws.{done_entry, after_need, after_wait, IsOfAnother}
@@ -54,72 +51,66 @@ use Rattle.proc_calls.specs.Ends as procs
 use Rattle.fault_entry.specs.Accesses.{IsAccess, IsHitWhereDone, IsShownWhereDone, MayBeAnswered, SlotsWhereDone, is_store}
 use Rattle.fault_entry.specs.seg_vn.Serves.{Serves, IsPlainReply}
 use Rattle.fault_entry.proofs.seg_vn.HomeFrames.{home-beside}
-use Rattle.vm_core.specs.Calls.{IsOnOwnSpace, IsServed, ConcernsMappings, IsDone, IsNeeded, IsBusy, IsOwnReply, IsShownAfterCall, SlotsAfterCall, IsHitAfterCall, TakesMemory, AnswersCall, with_memory, after_answer}
+use Rattle.file_calls.specs.Calls.{IsFileAnswer, IsFileReply}
+use Rattle.file_calls.specs.Locks.{IsAnothers, locks_answered}
+use Rattle.vm_core.specs.Calls.{IsOnOwnSpace, ConcernsMappings, IsDone, IsNeeded, IsBusy, IsOwnReply, IsShownAfterCall, SlotsAfterCall, IsHitAfterCall, TakesMemory, AnswersCall, with_memory, with_served, after_answer}
 use Rattle.vm_core.specs.Fits.{FitsAt}
 use Rattle.vm_core.specs.State.{IsSoundKernel}
+use Rattle.vm_core.proofs.OwnFiles.{has-place, locks-done, locks-same, may-use, own-holder, part-of}
 use Rattle.fault_entry.specs.seg_vn.declared.attempt.Attempt.{Attempt}
 use Rattle.fault_entry.specs.seg_vn.declared.attempt.Attempt.TheVariants.{Done, Need, Busy}
 
--- THE CALLS ON A PROCESS'S OWN SPACE are of no file and bear nobody.
+-- THE CALLS ON A PROCESS'S OWN SPACE are of no file, and none is a Fork.
 pub record IsOfNoFile (call : Call) : Type 0 where
   pub file : file_of_call call ≡ None
   pub part : part_file call ≡ None
   pub plain : (child : ℕ) → call ≢ Fork child
-  pub bears : (q p cleared : ℕ) (reply : Reply) → is_birth q (done_entry p call reply cleared) ≡ false
 
+pub served-is : (call : Call) → IsOnOwnSpace call → IsOfNoFile call
+served-is (Load a n) h = record { file = refl; part = refl; plain = λ child e. let z : Load a n ≡ Fork child = e in cc }
+served-is (Store a n v) h = record { file = refl; part = refl; plain = λ child e. let z : Store a n v ≡ Fork child = e in cc }
+served-is (Map place len prot kind obj offset) h = record { file = refl; part = refl; plain = λ child e. let z : Map place len prot kind obj offset ≡ Fork child = e in cc }
+served-is (Unmap a len) h = record { file = refl; part = refl; plain = λ child e. let z : Unmap a len ≡ Fork child = e in cc }
+served-is (Protect a len prot) h = record { file = refl; part = refl; plain = λ child e. let z : Protect a len prot ≡ Fork child = e in cc }
+served-is (Sync a len) h = record { file = refl; part = refl; plain = λ child e. let z : Sync a len ≡ Fork child = e in cc }
+served-is Exit h = record { file = refl; part = refl; plain = λ child e. let z : Exit ≡ Fork child = e in cc }
+served-is call h = absurd h
+
+-- A call that is no Fork bears nobody.
 either : (b : Bool) → cond b false false ≡ false
 either true = refl
 either false = refl
 
-pub served-is : (call : Call) → IsOnOwnSpace call → IsOfNoFile call
-served-is (Load a n) h = record { file = refl; part = refl; plain = λ child e. let z : Load a n ≡ Fork child = e in cc; bears = λ q p cleared reply. either (is_done reply) }
-served-is (Store a n v) h = record { file = refl; part = refl; plain = λ child e. let z : Store a n v ≡ Fork child = e in cc; bears = λ q p cleared reply. either (is_done reply) }
-served-is (Map place len prot kind obj offset) h = record { file = refl; part = refl; plain = λ child e. let z : Map place len prot kind obj offset ≡ Fork child = e in cc; bears = λ q p cleared r. either (is_done r) }
-served-is (Unmap a len) h = record { file = refl; part = refl; plain = λ child e. let z : Unmap a len ≡ Fork child = e in cc; bears = λ q p cleared r. either (is_done r) }
-served-is (Protect a len prot) h = record { file = refl; part = refl; plain = λ child e. let z : Protect a len prot ≡ Fork child = e in cc; bears = λ q p cleared r. either (is_done r) }
-served-is (Sync a len) h = record { file = refl; part = refl; plain = λ child e. let z : Sync a len ≡ Fork child = e in cc; bears = λ q p cleared r. either (is_done r) }
-served-is Exit h = record { file = refl; part = refl; plain = λ child e. let z : Exit ≡ Fork child = e in cc; bears = λ q p cleared r. either (is_done r) }
-served-is call h = absurd h
+bears-nobody : (call : Call) → ((child : ℕ) → call ≢ Fork child) → (q p cleared : ℕ) (r : Reply) → is_birth q (done_entry p call r cleared) ≡ false
+bears-nobody (Fork child) plain q p cleared r = absurd (plain child refl)
+bears-nobody call plain q p cleared r = either (is_done r)
 
--- What is served and is no Fork is on the process's own space; so is an access.
-pub no-fork : (call : Call) → IsServed call → ((child : ℕ) → call ≢ Fork child) → IsOnOwnSpace call
-no-fork (Fork child) h fork = absurd (fork child refl)
-no-fork call h fork = h
-
+-- An access is on the process's own space.
 pub access-own : (call : Call) → ((a : ℕ) × (n : ℕ) × (call ≡ Load a n)) ⊎ ((a : ℕ) × (n : ℕ) × (v : ℕ) × (call ≡ Store a n v)) → IsOnOwnSpace call
 access-own call is = elim is [ inl x ↦ subst IsOnOwnSpace (sym x.2) tt | inr x ↦ subst IsOnOwnSpace (sym x.3) tt ]
 
--- What is on it and is no access concerns mappings; and where it is neither the exit nor a Sync, it changes those of a process that goes on.
-pub no-access : (call : Call) → IsOnOwnSpace call → ((a n : ℕ) → call ≢ Load a n) → ((a n v : ℕ) → call ≢ Store a n v) → ConcernsMappings call
-no-access (Load a n) h load store = absurd (load a n refl)
-no-access (Store a n v) h load store = absurd (store a n v refl)
-no-access call h load store = h
+-- What is none, no Fork and no call on a file concerns mappings, which are on it too; and where it is neither the exit nor a Sync, it changes those of a process that goes on.
+pub concerns-mappings : (call : Call) → ((a n : ℕ) → call ≢ Load a n) → ((a n v : ℕ) → call ≢ Store a n v) → ((child : ℕ) → call ≢ Fork child) → ((file offset len : ℕ) → call ≢ Read file offset len)
+    → ((file offset : ℕ) (line : List ℕ) (rest : ℕ) → call ≢ Write file offset line rest) → ((file len : ℕ) → call ≢ Truncate file len) → ConcernsMappings call
+concerns-mappings (Load a n) load store fork read write cut = absurd (load a n refl)
+concerns-mappings (Store a n v) load store fork read write cut = absurd (store a n v refl)
+concerns-mappings (Fork child) load store fork read write cut = absurd (fork child refl)
+concerns-mappings (Read file offset len) load store fork read write cut = absurd (read file offset len refl)
+concerns-mappings (Write file offset line rest) load store fork read write cut = absurd (write file offset line rest refl)
+concerns-mappings (Truncate file len) load store fork read write cut = absurd (cut file len refl)
+concerns-mappings call load store fork read write cut = tt
+
+pub own-mappings : (call : Call) → ConcernsMappings call → IsOnOwnSpace call
+own-mappings (Load a n) h = absurd h
+own-mappings (Store a n v) h = absurd h
+own-mappings call h = h
 
 pub no-exit : (call : Call) → ConcernsMappings call → call ≢ Exit → ((a len : ℕ) → call ≢ Sync a len) → mmap.ChangesMappings call
 no-exit Exit h exit sync = absurd (exit refl)
 no-exit (Sync a len) h exit sync = absurd (sync a len refl)
 no-exit call h exit sync = h
 
--- No lock of a file is the seat's, before and after such a call.
-pub locks-same : (H : List Entry) (calls syncs : List (Option ℕ)) (seat p cleared : ℕ) (call : Call) (reply : Reply) → CallsFit H calls syncs → p ≡ suc seat → MayFollow H (done_entry p call reply cleared) → part_file call ≡ None
-    → LocksAfter (done_entry p call reply cleared) calls calls
-locks-same H calls syncs seat p cleared call reply fit is follows none f t = by_seat (p == suc t) refl
-  where
-    of-last : (o : Option Entry) → IsSomeAnd o (IsOpenPart f) → MatchOption o (Unit {0}) (λ d. FollowsOn d (done_entry p call reply cleared)) → part_file call ≡ Some f
-    of-last None here next = absurd here
-    of-last (Some d) here (inl ended) = absurd (let z : true ≡ false = sym ended ∙ here.1 in cc)
-    of-last (Some d) here (inr next) = next-file d.call d.reply next.0 call next.1 ∙ here.0
-
-    by_seat : (b : Bool) → (p == suc t) ≡ b → (slice_index_or calls f None ≡ Some t) ↔ MatchBool b (IsOpenPart f (done_entry p call reply cleared)) (slice_index_or calls f None ≡ Some t)
-    by_seat true own = (
-      (λ h. absurd (
-          let mine : t ≡ seat = elim (eqb_tells p (suc t)) [ inl y ↦ (let z : suc t ≡ suc seat = sym y.1 ∙ is in omega (arith, z)) | inr n ↦ absurd (let z : true ≡ false = sym own ∙ n.0 in cc) ] in
-          let still : IsSomeAnd (last_entry p H) (IsOpenPart f) = subst (λ (q : ℕ). IsSomeAnd (last_entry q H) (IsOpenPart f)) (sym is) ((fit.files f seat).0 (h ∙ ap (λ (k : ℕ). Some k) mine)) in
-          let z : ◌≡◌ {A = Option ℕ} None (Some f) = sym none ∙ of-last (last_entry p H) still follows in cc)),
-      (λ h. absurd (let z : ◌≡◌ {A = Option ℕ} None (Some f) = sym none ∙ h.0 in cc)),
-    )
-    by_seat false other = ((λ h. h), (λ h. h))
-
+-- THE STARTS OF SYNCS after a call that is done, which bears nobody.
 pub starts-dropped : (syncs : List (Option ℕ)) (seat : ℕ) (e : Entry) → e.process ≡ suc seat → seat < length syncs → ((q : ℕ) → is_birth q e ≡ false) → StartsAfter e syncs (slice_set syncs seat None)
 starts-dropped syncs seat e is lt bears t b has = elim (cases_eq t seat) [
   | inl same ↦ absurd (let z : ◌≡◌ {A = Option ℕ} None (Some b) = sym (ap (λ (k : ℕ). slice_index_or (slice_set syncs seat None) k None) same ∙ get_or-set_same syncs seat None None lt) ∙ has in cc)
@@ -160,19 +151,23 @@ count-begun : (call : Call) (seat start : ℕ) (syncs : List (Option ℕ)) → l
 count-begun (Sync a len) seat start syncs = length-set syncs seat (Some start)
 count-begun call seat start syncs = refl
 
+-- WHAT THE FILES' CALLS LET AN ANSWER BE, these being the seats that have them then: a call is done where its file is free, or its own and the call a part, and its entry leaves the seats so; a file's call
+-- is waited for where it is another seat's.
+abbrev pub FilesLet : KernelState → List (Option ℕ) → ℕ → ℕ → Call → Attempt → Type 0
+FilesLet s calls seat p call (Done reply) = MayUseFile (done_entry p call reply 0) seat s.calls × ((cleared : ℕ) → LocksAfter (done_entry p call reply cleared) s.calls calls)
+FilesLet s calls seat p call (Need plan) = calls ≡ s.calls
+FilesLet s calls seat p call (Busy h) = IsOfAnother seat h × (calls ≡ s.calls)
+
 -- DONE.
-module _ (opening : Flat) (s : KernelState) (seats : Seats) (fit : StateFits opening s seats) (m : Memory) (seat p more : ℕ) (call : Call) (of : IsOfNoFile call) (try : CanTry s seat p call) (lt : seat < length s.syncs) where
+module _ (opening : Flat) (s : KernelState) (seats : Seats) (fit : StateFits opening s seats) (m : Memory) (calls : List (Option ℕ)) (seat p more : ℕ) (call : Call) (plain : (child : ℕ) → call ≢ Fork child) (try : CanTry s seat p call) (lt : seat < length s.syncs) where
   abbrev pub made : Reply → KernelState
-  made reply = with_entry_made (record s { memory = m }) (done_entry p call reply more) s.calls (slice_set s.syncs seat None)
+  made reply = with_entry_made (record s { memory = m }) (done_entry p call reply more) calls (slice_set s.syncs seat None)
 
   p-is : p ≡ suc seat
   p-is = seat-is s seat p call try
 
-  locks : (reply : Reply) → LocksAfter (done_entry p call reply more) s.calls s.calls
-  locks reply = locks-same s.history s.calls s.syncs seat p more call reply fit.calls p-is (try.follows reply more) of.part
-
   starts : (reply : Reply) → StartsAfter (done_entry p call reply more) s.syncs (slice_set s.syncs seat None)
-  starts reply = starts-dropped s.syncs seat (done_entry p call reply more) p-is lt (λ q. of.bears q p more reply)
+  starts reply = starts-dropped s.syncs seat (done_entry p call reply more) p-is lt (λ q. bears-nobody call plain q p more reply)
 
   -- a Sync began where it says
   began : (reply : Reply) (from : ℕ) → IsOwnReply s p (Done reply) → reply ≡ Synced from → IsStart s.history (length s.history) p from
@@ -180,20 +175,20 @@ module _ (opening : Flat) (s : KernelState) (seats : Seats) (fit : StateFits ope
       subst (λ (k : ℕ). IsStart s.history (length s.history) p k) (sym (own.1 from is ∙ ap (start_of s) try.own))
       (subst (λ (k : ℕ). IsStart s.history (length s.history) k (start_of s seat)) (sym p-is) (start_rule.began opening s seats seat fit))
 
-  pub done-event : (reply : Reply) → IsWellFormed call → ServesDone s.memory m s.pending more p call reply → StaysAlive m p call → IsOwnReply s p (Done reply) → IsEvent seat s None (made reply) None
-  done-event reply formed serves alive own = serving_law.done s m seat p more call reply s.calls (slice_set s.syncs seat None) try serves alive (record {
+  pub done-event : (reply : Reply) → IsWellFormed call → ServesDone s.memory m s.pending more p call reply → FilesLet s calls seat p call (Done reply) → StaysAlive m p call → IsOwnReply s p (Done reply) → IsEvent seat s None (made reply) None
+  done-event reply formed serves lets alive own = serving_law.done s m seat p more call reply calls (slice_set s.syncs seat None) try serves alive (record {
     formed = formed;
-    plain = of.plain;
+    plain = plain;
     own = own.0;
     sync = λ from is. began reply from own is;
-    file = λ f t is. absurd (let z : ◌≡◌ {A = Option ℕ} None (Some f) = sym of.file ∙ is in cc);
-  }) (locks reply) (starts reply) (length-set s.syncs seat None)
+    file = lets.0;
+  }) (lets.1 more) (starts reply) (length-set s.syncs seat None)
 
-  pub done-answer : (reply : Reply) → ServesDone s.memory m s.pending more p call reply → IsOwnReply s p (Done reply) → IsDone s (made reply) p call reply
-  done-answer reply serves own = record {
+  pub done-answer : (reply : Reply) → ServesDone s.memory m s.pending more p call reply → FilesLet s calls seat p call (Done reply) → IsOwnReply s p (Done reply) → IsDone s (made reply) p call reply
+  done-answer reply serves lets own = record {
     mid = serves.mid;
     cleared = more;
-    adds = record { history = refl; pending = refl; locks = locks reply; starts = starts reply };
+    adds = record { history = refl; pending = refl; locks = lets.1 more; starts = starts reply };
     no_error = own.0;
     refusal = serves.refusal;
     start = own.1;
@@ -225,19 +220,14 @@ module _ (opening : Flat) (s : KernelState) (seats : Seats) (fit : StateFits ope
   }
 
   -- SOMEBODY IS WAITED FOR.
-  no-file : (h : Hold) → HoldsUp m s.calls p call h → IsOfAnother seat h
-  no-file (hold.Page t) cause = tt
-  no-file (hold.Disk t) cause = tt
-  no-file (hold.File t) cause = absurd (let z : ◌≡◌ {A = Option ℕ} None (Some cause.0) = sym of.file ∙ cause.1 in cc)
-
   pub wait-event : (h : Hold) → ServesBusy s.memory m s.pending more s.calls p call h → IsEvent seat s None (after_wait (with_call_begun s seat call) m more) None
   wait-event h serves =
       event_law.joined seat s (with_call_begun s seat call) (after_wait (with_call_begun s seat call) m more) None None None begun-event
       (serving_law.busy (with_call_begun s seat call) m seat p more call h serves)
 
-  pub wait-answer : (h : Hold) → seats seat ≡ None → ServesBusy s.memory m s.pending more s.calls p call h → IsBusy s (after_wait (with_call_begun s seat call) m more) seat p call h
-  wait-answer h idle serves = record {
-    holds = serving_law.another opening s seats m seat p more call h fit idle try serves (no-file h serves.holds);
+  pub wait-answer : (h : Hold) → seats seat ≡ None → ServesBusy s.memory m s.pending more s.calls p call h → IsOfAnother seat h → IsBusy s (after_wait (with_call_begun s seat call) m more) seat p call h
+  wait-answer h idle serves another = record {
+    holds = serving_law.another opening s seats m seat p more call h fit idle try serves another;
     refusal = serves.refusal;
     plan = refl;
     began = record { takes = serves.first; replaced = serves.replaced; modified = serves.modified; spaces = serves.spaces; none = record { history = refl; calls = refl }; starts = refl };
@@ -248,26 +238,55 @@ pub record Concludes (s t : KernelState) (seat p : ℕ) (call : Call) (a : Attem
   pub answers : AnswersCall s t seat p call a
   pub event : IsEvent seat s None t None
 
-pub concludes : (opening : Flat) (s : KernelState) (seats : Seats) (m : Memory) (seat p more : ℕ) (call : Call) (a : Attempt) → StateFits opening s seats → seats seat ≡ None → IsOfNoFile call → CanTry s seat p call → IsWellFormed call
-    → Serves s.memory m s.pending more s.calls p call a → StaysAlive m p call → IsOwnReply s p a → seat < length s.syncs → Concludes s (after_answer (with_memory s m more) seat p call a) seat p call a
-concludes opening s seats m seat p more call (Done reply) fit idle of try formed serves alive own lt =
+pub concludes : (opening : Flat) (s : KernelState) (seats : Seats) (m : Memory) (calls : List (Option ℕ)) (seat p more : ℕ) (call : Call) (a : Attempt) → StateFits opening s seats → seats seat ≡ None → ((child : ℕ) → call ≢ Fork child) → CanTry s seat p call → IsWellFormed call
+    → Serves s.memory m s.pending more s.calls p call a → FilesLet s calls seat p call a → StaysAlive m p call → IsOwnReply s p a → seat < length s.syncs → Concludes s (after_answer (with_served s m more calls) seat p call a) seat p call a
+concludes opening s seats m calls seat p more call (Done reply) fit idle plain try formed serves lets alive own lt =
     let p_is = seat-is s seat p call try in
     let place : p - 1 ≡ seat = omega (arith, p_is) in
-    let same : after_answer (with_memory s m more) seat p call (Done reply) ≡ with_entry_made (record s { memory = m }) (done_entry p call reply more) s.calls (slice_set s.syncs seat None) = ap (λ (k : ℕ). with_entry_made (record s { memory = m }) (done_entry p call reply more) s.calls (slice_set s.syncs k None)) place in
+    let same : after_answer (with_served s m more calls) seat p call (Done reply) ≡ with_entry_made (record s { memory = m }) (done_entry p call reply more) calls (slice_set s.syncs seat None) = ap (λ (k : ℕ). with_entry_made (record s { memory = m }) (done_entry p call reply more) calls (slice_set s.syncs k None)) place in
     subst (λ (t : KernelState). Concludes s t seat p call (Done reply)) (sym same) (record {
-      answers = done-answer opening s seats fit m seat p more call of try lt reply serves own;
-      event = done-event opening s seats fit m seat p more call of try lt reply formed serves alive own;
+      answers = done-answer opening s seats fit m calls seat p more call plain try lt reply serves lets own;
+      event = done-event opening s seats fit m calls seat p more call plain try lt reply formed serves lets alive own;
     })
-concludes opening s seats m seat p more call (Need plan) fit idle of try formed serves alive own lt =
-    record {
-      answers = need-answer opening s seats fit m seat p more call of try lt plan serves;
-      event = need-event opening s seats fit m seat p more call of try lt plan serves;
-    }
-concludes opening s seats m seat p more call (Busy h) fit idle of try formed serves alive own lt =
-    record {
-      answers = wait-answer opening s seats fit m seat p more call of try lt h idle serves;
-      event = wait-event opening s seats fit m seat p more call of try lt h serves;
-    }
+concludes opening s seats m calls seat p more call (Need plan) fit idle plain try formed serves lets alive own lt =
+    subst (λ (cs : List (Option ℕ)). Concludes s (after_answer (with_served s m more cs) seat p call (Need plan)) seat p call (Need plan)) (sym lets) (record {
+      answers = need-answer opening s seats fit m s.calls seat p more call plain try lt plan serves;
+      event = need-event opening s seats fit m s.calls seat p more call plain try lt plan serves;
+    })
+concludes opening s seats m calls seat p more call (Busy h) fit idle plain try formed serves lets alive own lt =
+    subst (λ (cs : List (Option ℕ)). Concludes s (after_answer (with_served s m more cs) seat p call (Busy h)) seat p call (Busy h)) (sym lets.1) (record {
+      answers = wait-answer opening s seats fit m s.calls seat p more call plain try lt h idle serves lets.0;
+      event = wait-event opening s seats fit m s.calls seat p more call plain try lt h serves;
+    })
+
+-- WHAT THE FILES' CALLS LET a call on the process's own space be answered: they stay as they are.
+no-file : (m : Memory) (calls : List (Option ℕ)) (seat p : ℕ) (call : Call) (h : Hold) → IsOfNoFile call → HoldsUp m calls p call h → IsOfAnother seat h
+no-file m calls seat p call (hold.Page t) of cause = tt
+no-file m calls seat p call (hold.Disk t) of cause = tt
+no-file m calls seat p call (hold.File t) of cause = absurd (let z : ◌≡◌ {A = Option ℕ} None (Some cause.0) = sym of.file ∙ cause.1 in cc)
+
+own-lets : (opening : Flat) (s : KernelState) (seats : Seats) (m : Memory) (seat p more : ℕ) (call : Call) (a : Attempt) → StateFits opening s seats → IsOfNoFile call → CanTry s seat p call → Serves s.memory m s.pending more s.calls p call a → FilesLet s s.calls seat p call a
+own-lets opening s seats m seat p more call (Done reply) fit of try serves = (
+  (λ f t is. absurd (let z : ◌≡◌ {A = Option ℕ} None (Some f) = sym of.file ∙ is in cc)),
+  (λ cleared. locks-same s.history s.calls s.syncs seat p cleared call reply fit.calls (seat-is s seat p call try) (try.follows reply cleared) of.part),
+)
+own-lets opening s seats m seat p more call (Need plan) fit of try serves = refl
+own-lets opening s seats m seat p more call (Busy h) fit of try serves = (no-file m s.calls seat p call h of serves.holds, refl)
+
+-- AND A CALL ON A FILE: it is done where no other seat has its file, and its entry makes the file the seat's or nobody's.
+pub file-lets : (opening : Flat) (s : KernelState) (seats : Seats) (m : Memory) (seat p more : ℕ) (call : Call) (a : Attempt) → StateFits opening s seats → CanTry s seat p call → Serves s.memory m s.pending more s.calls p call a
+    → ((t : ℕ) → (a ≡ Busy (hold.File t)) ↔ IsAnothers s.calls seat call t) → length s.calls ≡ 64 → FilesLet s (locks_answered seat call a s.calls) seat p call a
+file-lets opening s seats m seat p more call (Done reply) fit try serves waits places =
+    let free : (k : ℕ) → IsAnothers s.calls seat call k → ⊥ = λ k another. let z : Done reply ≡ Busy (hold.File k) = (waits k).1 another in cc in
+    let is = seat-is s seat p call try in (
+      may-use s.history s.calls s.syncs seat p 0 call reply fit.calls is (try.follows reply 0) free,
+      (λ cleared. locks-done s.history s.calls s.syncs seat p cleared call reply fit.calls is (try.follows reply cleared) (λ f t of held. own-holder s.calls seat f t call free (part-of call f of) held)
+          (λ f of goes. let lt = has-place s.memory p f call reply fit.memory serves.refusal of goes in omega (arith, lt, places))),
+    )
+file-lets opening s seats m seat p more call (Need plan) fit try serves waits places = refl
+file-lets opening s seats m seat p more call (Busy (hold.Page t)) fit try serves waits places = (tt, refl)
+file-lets opening s seats m seat p more call (Busy (hold.Disk t)) fit try serves waits places = (tt, refl)
+file-lets opening s seats m seat p more call (Busy (hold.File t)) fit try serves waits places = (((waits t).0 refl).other, refl)
 
 -- BESIDE ANY FRAME ANOTHER IS HOME, whatever is away.
 pub home-frame : (store : StoreSeen) (zeros : List (Option ℕ)) (spaces : Spaces) (entries : List ℕ) (seats : ℕ) (notes : Notes) (table : PlaceTable) → IsSoundKernel store zeros spaces entries seats → IsSoundStore store → StoreFits store notes table
@@ -377,6 +396,31 @@ mapping-memory (Unmap addr len) is = tt
 mapping-memory (Protect addr len prot) is = tt
 mapping-memory call is = absurd is
 
+pub file-kind : (call : Call) → ((f : ℕ) × (offset : ℕ) × (len : ℕ) × (call ≡ Read f offset len)) ⊎ ((f : ℕ) × (offset : ℕ) × (line : List ℕ) × (rest : ℕ) × (call ≡ Write f offset line rest)) ⊎ ((f : ℕ) × (len : ℕ) × (call ≡ Truncate f len)) → IsSome (file_of_call call)
+file-kind call (inl is) = ap (λ (x : Call). is_some (file_of_call x)) is.3
+file-kind call (inr (inl is)) = ap (λ (x : Call). is_some (file_of_call x)) is.4
+file-kind call (inr (inr is)) = ap (λ (x : Call). is_some (file_of_call x)) is.2
+
+-- A call on a file is no Fork, leaves no translation to be told, makes no slot, and its process goes on.
+pub file-plain : (call : Call) → IsSome (file_of_call call) → (child : ℕ) → call ≢ Fork child
+file-plain call of child e = let z : false ≡ true = ap (λ (x : Call). is_some (file_of_call x)) (sym e) ∙ of in cc
+
+file-own : (s : KernelState) (p : ℕ) (call : Call) (r : Reply) → IsFileReply r call → IsOwnReply s p (Done r)
+file-own s p call (reply.Io disk before after) h = absurd h
+file-own s p call (reply.Synced from) h = absurd h
+file-own s p call r h = plain-own s p r tt
+
+pub file-answered : (s : KernelState) (p : ℕ) (call : Call) (a : Attempt) → IsFileAnswer a call → IsOwnReply s p a
+file-answered s p call (Done r) h = file-own s p call r h
+file-answered s p call (Need plan) h = tt
+file-answered s p call (Busy hold) h = tt
+
+pub after-file : (old new : Memory) (p : ℕ) (call : Call) (a : Attempt) → IsSome (file_of_call call) → new.world.anon ≡ old.world.anon → AfterMapping old new p call a
+after-file old new p (Read file offset len) a of same = record { shown = tt; slots = λ slot. let e = ap (λ (x : AnonSlotsSeen). count_at x slot) same in omega (arith, e); hit = tt }
+after-file old new p (Write file offset line rest) a of same = record { shown = tt; slots = λ slot. let e = ap (λ (x : AnonSlotsSeen). count_at x slot) same in omega (arith, e); hit = tt }
+after-file old new p (Truncate file len) a of same = record { shown = tt; slots = λ slot. let e = ap (λ (x : AnonSlotsSeen). count_at x slot) same in omega (arith, e); hit = tt }
+after-file old new p call a of same = absurd (let z : false ≡ true = of in cc)
+
 -- What a Sync leaves of the state, where the seats' starts stay.
 pub synced-rest : (v s : KernelState) (m : Memory) (pending : ℕ) (syncs : List (Option ℕ)) → v ≡ s → syncs ≡ v.syncs → record (with_memory v m pending) { syncs = syncs } ≡ with_memory s m pending
 synced-rest v s m pending syncs is same = ap (λ (l : List (Option ℕ)). record (with_memory v m pending) { syncs = l }) same ∙ ap (λ (x : KernelState). with_memory x m pending) is
@@ -395,7 +439,10 @@ pub record WasServed (s mid : KernelState) (p : ℕ) (call : Call) (a : Attempt)
   pub hit : IsHitAfterCall s.memory mid.memory.world p call a
   pub own : IsOwnReply s p a
   pub alive : StaysAlive mid.memory p call
-  pub rest : mid ≡ with_memory s mid.memory mid.pending
+
+-- Where a call is of no file, it waits for none.
+pub none-waits : (calls : List (Option ℕ)) (seat t : ℕ) (call : Call) → file_of_call call ≡ None → IsAnothers calls seat call t → ⊥
+none-waits calls seat t call none another = let z : ◌≡◌ {A = Option ℕ} None (Some another.file) = sym none ∙ another.of in cc
 
 -- What a call that was tried comes to.
 pub record Tries (s t : KernelState) (seat p : ℕ) (call : Call) (a : Attempt) : Type 0 where
@@ -405,13 +452,13 @@ pub record Tries (s t : KernelState) (seat p : ℕ) (call : Call) (a : Attempt) 
   pub hit : IsHitAfterCall s.memory t.memory.world p call a
   pub event : IsEvent seat s None t None
 
-pub tries : (seat p : ℕ) (s mid t : KernelState) (call : Call) (a : Attempt) → FitsAt s seat None → IsOnOwnSpace call → CanTry s seat p call → IsWellFormed call → WasServed s mid p call a → t ≡ after_answer mid seat p call a
-    → seat < length mid.syncs → Tries s t seat p call a
-tries seat p s mid t call a fits served may formed w new seated =
-    let of = served-is call served in
+-- Where these seats have the files' calls then.
+tries : (seat p : ℕ) (s mid t : KernelState) (calls : List (Option ℕ)) (call : Call) (a : Attempt) (fits : FitsAt s seat None) → ((child : ℕ) → call ≢ Fork child) → CanTry s seat p call → IsWellFormed call → WasServed s mid p call a → FilesLet s calls seat p call a
+    → mid ≡ with_served s mid.memory mid.pending calls → t ≡ after_answer mid seat p call a → seat < length mid.syncs → Tries s t seat p call a
+tries seat p s mid t calls call a fits plain may formed w lets rest new seated =
     let memory : t.memory ≡ mid.memory = ap (λ (x : KernelState). x.memory) new ∙ concluded-memory mid seat p call a in
-    let c = subst (λ (x : KernelState). Concludes s x seat p call a) (sym (new ∙ ap (λ (x : KernelState). after_answer x seat p call a) w.rest))
-    (concludes fits.0 s fits.1 mid.memory seat p mid.pending call a fits.2 fits.3 of may formed w.serves w.alive w.own (subst (λ (x : KernelState). seat < length x.syncs) w.rest seated)) in
+    let c = subst (λ (x : KernelState). Concludes s x seat p call a) (sym (new ∙ ap (λ (x : KernelState). after_answer x seat p call a) rest))
+    (concludes fits.0 s fits.1 mid.memory calls seat p mid.pending call a fits.2 fits.3 plain may formed w.serves lets w.alive w.own (subst (λ (x : KernelState). seat < length x.syncs) rest seated)) in
     record {
       answers = c.answers;
       shown = subst (λ (m : Memory). IsShownAfterCall m p call a) (sym memory) w.shown;
@@ -419,6 +466,18 @@ tries seat p s mid t call a fits served may formed w new seated =
       hit = subst (λ (m : Memory). IsHitAfterCall s.memory m.world p call a) (sym memory) w.hit;
       event = c.event;
     }
+
+-- On the process's own space, and on a file.
+pub tries-own : (seat p : ℕ) (s mid t : KernelState) (call : Call) (a : Attempt) → FitsAt s seat None → IsOnOwnSpace call → CanTry s seat p call → IsWellFormed call → WasServed s mid p call a → mid ≡ with_memory s mid.memory mid.pending → t ≡ after_answer mid seat p call a
+    → seat < length mid.syncs → Tries s t seat p call a
+tries-own seat p s mid t call a fits served may formed w rest new seated =
+    let of = served-is call served in
+    tries seat p s mid t s.calls call a fits of.plain may formed w (own-lets fits.0 s fits.1 mid.memory seat p mid.pending call a fits.2 of may w.serves) rest new seated
+
+pub tries-file : (seat p : ℕ) (s mid t : KernelState) (call : Call) (a : Attempt) → FitsAt s seat None → IsSome (file_of_call call) → CanTry s seat p call → IsWellFormed call → WasServed s mid p call a → ((t : ℕ) → (a ≡ Busy (hold.File t)) ↔ IsAnothers s.calls seat call t)
+    → length s.calls ≡ 64 → mid ≡ with_served s mid.memory mid.pending (locks_answered seat call a s.calls) → t ≡ after_answer mid seat p call a → seat < length mid.syncs → Tries s t seat p call a
+tries-file seat p s mid t call a fits of may formed w waits places rest new seated =
+    tries seat p s mid t (locks_answered seat call a s.calls) call a fits (file-plain call of) may formed w (file-lets fits.0 s fits.1 mid.memory seat p mid.pending call a fits.2 may w.serves waits places) rest new seated
 
 -- ANSWERS THAT MAY BE WANT OF MEMORY.
 pub ok-then : {E : Type 0} (P Q : Attempt → Type 0) (r : Result Attempt E) → ((a : Attempt) → P a → Q a) → IfOk r P → IfOk r Q

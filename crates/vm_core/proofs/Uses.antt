@@ -3,7 +3,7 @@ use Rattle.fault_entry.proofs.hat_layer.FrameLemmas.{leads-true as leads-is}
 use Rattle.fault_entry.proofs.flat_model.Starts.{or_cases as either-is}
 use Rattle.fault_entry.proofs.flat_model.Ranges.{both_true as both}
 use Rattle.std.proofs.Common.{◌≡◌, ◌≢◌, ℕ, zero, suc, ◌<◌, ◌==◌, ◌||◌, ◌&&◌, Bool, true, false, cond, List, [], ◌∷◌, length, Option, Some, None, refl, sym, ap, ◌∙◌, inl, inr, subst, get_or-set_same, get_or-set_other}
-use Rattle.std.specs.Prelude.{◌⊎◌, slice_index_or, option_map, IsSome}
+use Rattle.std.specs.Prelude.{slice_index_or, option_map, IsSome}
 use Rattle.std.specs.List.{list_any}
 use Rattle.std.proofs.lemmas.Bool.{eq-eqb, eqb-true, or_left as or-left, or_right as or-right}
 use Rattle.fault_entry.specs.hat_layer.Pool.{HatSeen, frame_of, leads, has_bit, bits_of, change_lead, change_frame, with_clear_bits}

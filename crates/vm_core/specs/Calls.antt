@@ -1,5 +1,5 @@
 -- What a call that is tried leaves of the state. Public clauses cite this.
-use Rattle.std.specs.Prelude.{◌≡◌, ◌≤◌, ◌+◌, ℕ, true, false, Some, None, IsFalse}
+use Rattle.std.specs.Prelude.{◌≡◌, ◌≤◌, ◌+◌, ℕ, true, false, List, Option, Some, None, IsFalse}
 use Rattle.fault_entry.specs.page_hash.declared.PageName.{PageName}
 use Rattle.fault_entry.specs.page_store.declared.plan.Hold.{Hold}
 use Rattle.fault_entry.specs.page_store.declared.plan.Plan.{Plan}
@@ -37,14 +37,12 @@ IsOnOwnSpace (Load a n) = Unit {0}
 IsOnOwnSpace (Store a n v) = Unit {0}
 IsOnOwnSpace call = ConcernsMappings call
 
--- The calls that are served so far: those, and a Fork.
-abbrev pub IsServed : Call → Type 0
-IsServed (Fork child) = Unit {0}
-IsServed call = IsOnOwnSpace call
-
--- The state with other memory, and these tails pending.
+-- The state with other memory, and these tails pending; and where these seats have the files' calls then.
 abbrev pub with_memory : KernelState → Memory → ℕ → KernelState
 with_memory s m pending = record s { memory = m; pending = pending }
+
+abbrev pub with_served : KernelState → Memory → ℕ → List (Option ℕ) → KernelState
+with_served s m pending calls = record (with_memory s m pending) { calls = calls }
 
 -- The state once an answer was concluded: with its entry; or with the plan kept that it needs; or with none. A Sync that isn't answered yet has its start kept.
 abbrev pub after_answer : KernelState → ℕ → ℕ → Call → Attempt → KernelState

@@ -1,5 +1,5 @@
 -- What a state keeps, as contracts see it. Public clauses cite `kept_seen`.
-use Rattle.std.specs.Prelude.{◌≤◌, ◌+◌, ℕ, suc, Bool, true, false, List, [], ◌∷◌, Option, Some, None, length, if◌then◌else◌, ◌++◌, ◌-◌, ◌==◌, slice_set, slice_index_or}
+use Rattle.std.specs.Prelude.{◌≤◌, ◌+◌, ℕ, suc, Bool, true, false, List, [], ◌∷◌, Option, Some, None, length, if◌then◌else◌, ◌++◌, ◌-◌, slice_set}
 use Rattle.std.specs.Ordering.{nat_cmp}
 use Rattle.std.specs.FinSet as set
 use Rattle.fault_entry.specs.vm_types.declared.call.Entry.{Entry}
@@ -45,13 +45,3 @@ top_space parents p = if is_top parents p then Some [] else None
 -- The state with an entry more, which took the pending tails. No Sync of its process has begun.
 abbrev pub with_next_entry : KernelState → Entry → KernelState
 with_next_entry s e = record s { history = s.history ++ e ∷ []; pending = 0; syncs = slice_set s.syncs (e.process - 1) None }
-
--- A seat that isn't this one.
-abbrev pub without_seat : ℕ → Option ℕ → Option ℕ
-without_seat seat None = None
-without_seat seat (Some other) = if other == seat then None else Some other
-
--- Whose calls of files are between two parts, once that of this file isn't this seat's.
-abbrev pub calls_without : ℕ → Option ℕ → List (Option ℕ) → List (Option ℕ)
-calls_without seat None calls = calls
-calls_without seat (Some f) calls = slice_set calls f (without_seat seat (slice_index_or calls f None))

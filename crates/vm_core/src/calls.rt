@@ -6,6 +6,8 @@ ghost use Rattle.fault_entry.specs.Answers.{attempt_of};
 ghost use Rattle.fault_entry.specs.page_store.Notes.{Notes};
 ghost use Rattle.fault_entry.specs.anon_slots.Slots.{count_at};
 ghost use Rattle.fault_entry.specs.flat_model.Told.{entries_of};
+ghost use Rattle.fault_entry.specs.page_store.declared.plan.Hold.TheVariants.{File};
+ghost use Rattle.fault_entry.specs.seg_vn.declared.attempt.Attempt.TheVariants.{Busy};
 ghost use Rattle.mmap_calls.specs.Calls.{ChangesMappings};
 ghost use Rattle.proc_calls.specs.Ends as procs;
 ghost use Rattle.fault_entry.specs.vm_types.WellFormed.{IsWellFormed};
@@ -15,7 +17,8 @@ ghost use Rattle.fault_entry.specs.vm_world.Events.{IsEvent, CanTry};
 ghost use Rattle.fault_entry.specs.vm_world.MemoryFits.{MemoryFits};
 ghost use Rattle.fault_entry.specs.vm_world.NotesFit.{NotesFit};
 ghost use Rattle.fault_entry.specs.vm_world.State.{room_of, seat_of};
-ghost use Rattle.vm_core.specs.Calls.{IsServed, ConcernsMappings, TakesMemory, AnswersCall, IsOwnReply, IsShownAfterCall, SlotsAfterCall, IsHitAfterCall, with_memory, after_answer};
+ghost use Rattle.file_calls.specs.Locks.{IsAnothers};
+ghost use Rattle.vm_core.specs.Calls.{ConcernsMappings, TakesMemory, AnswersCall, IsOwnReply, IsShownAfterCall, SlotsAfterCall, IsHitAfterCall, with_memory, after_answer};
 ghost use Rattle.vm_core.specs.Fits.{FitsAt};
 ghost use Rattle.fault_entry.specs.seg_vn.Serves.{Serves};
 
@@ -33,10 +36,12 @@ impl<D: Disk> VmState<D> {
     pub fn try_call(&mut self, seat: u32, process: u32, call: &Call) -> Result<Attempt, AllocError>
         requires fits { FitsAt self.old seat None }
         requires formed { IsWellFormed call.now }
-        requires served { IsServed call.now }
         requires may { CanTry self.old seat process call.now }
         ensures answers { IfOk result (λ attempt. AnswersCall self.old self.new seat process
             call.now attempt) }
+        // Another seat that has the call of its file between two parts is waited for, whatever else is due.
+        ensures waits { IfOk result (λ attempt. (t : ℕ)
+            → IsAnothers self.old.calls seat call.now t → attempt ≡ Busy (File t)) }
         // The mechanisms are real.
         ensures shown { IfOk result (λ attempt. IsShownAfterCall self.new.memory process
             call.now attempt) }
@@ -55,6 +60,10 @@ impl<D: Disk> VmState<D> {
         }
         if let Call::Fork { child } = *call {
             return self.fork(seat, process, child, call);
+        }
+        if let Call::Read { .. } | Call::Write { .. } | Call::Truncate { .. } = *call {
+            let attempt = self.serve_file(seat, process, call);
+            return Ok(self.conclude(seat, process, call, attempt));
         }
         let attempt = self.serve(seat, process, call)?;
         Ok(self.conclude(seat, process, call, attempt))

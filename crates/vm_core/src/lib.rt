@@ -8,6 +8,7 @@ mod calls;
 mod clock;
 mod closing;
 mod ends;
+mod files;
 mod finish;
 mod forks;
 mod history;

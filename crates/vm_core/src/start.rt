@@ -21,11 +21,12 @@ ghost use Rattle.vm_core.specs.State.{born_of, top_space};
 
 use crate::ledger::Ledger;
 use crate::setup::Setup;
-use crate::state::{FILES, VmState};
+use crate::state::VmState;
 use crate::syncs::Syncs;
 use fault_entry::{
     AnonMaps, AnonSlots, Disk, Files, Hat, Ranges, Spaces, Store, World, ZeroObjects,
 };
+use file_calls::FileLocks;
 use std::alloc::{AllocError, Global};
 
 /// What a state takes memory for, its frames aside.
@@ -198,7 +199,7 @@ impl<D: Disk> VmState<D> {
                 },
                 spaces: tables.spaces,
                 ledger: tables.ledger,
-                calls: [None; FILES],
+                calls: FileLocks::new(),
                 syncs: tables.syncs,
                 plan: None,
                 born: tables.born,

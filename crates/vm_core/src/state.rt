@@ -5,17 +5,16 @@ ghost use Rattle.fault_entry.specs.flat_model.Told.{entries_of};
 ghost use Rattle.fault_entry.specs.vm_world.State.{room_of, seat_of};
 ghost use Rattle.fault_entry.specs.vm_world.SyncSteps.{start_of, with_call_begun};
 ghost use Rattle.fault_entry.specs.vm_types.Parts.{part_file};
-ghost use Rattle.vm_core.specs.State.{kept_seen, with_next_entry, without_seat, calls_without};
+ghost use Rattle.file_calls.specs.Locks.{calls_without};
+ghost use Rattle.vm_core.specs.State.{kept_seen, with_next_entry};
 
 use crate::kept::Kept;
 use crate::ledger::Ledger;
 use crate::syncs::Syncs;
-use fault_entry::{Call, Disk, Reply, Spaces, World, part_file};
+use fault_entry::{Call, Disk, Reply, Spaces, World};
+use file_calls::FileLocks;
 use std::alloc::Global;
 use std::marker::Model;
-
-/// How many files there may be.
-pub(crate) const FILES: usize = 64;
 
 /// The state of the system: the world below the segments, the spaces, and the history.
 ///
@@ -27,7 +26,7 @@ pub struct VmState<D: Disk> {
     // The history, and of each process the most entries that it may make.
     pub(crate) ledger: Ledger,
     // Of each file the seat whose call is between two parts.
-    pub(crate) calls: [Option<u32>; FILES],
+    pub(crate) calls: FileLocks,
     // Of each seat where its Sync began, and where it looks next.
     pub(crate) syncs: Syncs,
     // The last plan that was answered.
@@ -37,25 +36,6 @@ pub struct VmState<D: Disk> {
     pub(crate) parents: Vec<u32>,
     // Where a child's space comes from.
     pub(crate) alloc: Global,
-}
-
-// The call of a file that is a seat's is over.
-fn release(calls: &mut [Option<u32>; FILES], file: usize, seat: u32)
-    ensures { calls.new ≡ calls_without seat (Some file) calls.old }
-{
-    if file < FILES {
-        calls[file] = without_seat(seat, calls[file]);
-    }
-}
-
-// None where it is this seat.
-fn without_seat(seat: u32, holder: Option<u32>) -> Option<u32>
-    ensures { result ≡ without_seat seat holder }
-{
-    match holder {
-        Some(other) if other != seat => holder,
-        _ => None,
-    }
 }
 
 impl<D: Disk> Model for VmState<D> {
@@ -162,9 +142,7 @@ impl<D: Disk> VmState<D> {
         ensures { self.new
             ≡ record self.old { calls = calls_without seat (part_file call.now) self.old.calls } }
     {
-        if let Some(file) = part_file(call) {
-            release(&mut self.calls, file as usize, seat);
-        }
+        self.calls.release(seat, call);
     }
 
     /// The last plan that an event answered, where no event came since.

@@ -33,7 +33,6 @@ goes-both c m d a b = record {
 pub may-still : (k : KernelSeen) (c m : CallerSeen) (call : Call) → MayCall k c call → CallerGoesOn c m → m.seat.own ≡ c.seat.own → IsForCall c.process call m.seat.note → MayCall k m call
 may-still k c m call may goes own hand = record {
   formed = may.formed;
-  served = may.served;
   alive =
       subst (λ (q : ℕ). IsKnownAlive k.opening.parents m.seat.seen m.seat.own q) (sym goes.process)
       (subst (λ (es : List Entry). IsKnownAlive k.opening.parents m.seat.seen es c.process) (sym own)

@@ -11,7 +11,7 @@ use Rattle.vm_core.specs.vm_types.WellFormed.{IsWellFormed}
 use Rattle.vm_core.specs.vm_types.declared.call.Call.{Call}
 use Rattle.vm_core.specs.vm_types.declared.call.Reply.{Reply}
 use Rattle.vm_core.specs.vm_types.declared.call.Reply.TheVariants as reply
-use Rattle.vm_core.specs.Calls.{IsServed, TakesMemory}
+use Rattle.vm_core.specs.Calls.{TakesMemory}
 use Rattle.vm_core.specs.vm_world.SeatLaws.{IsKnownAlive, MayComeNext}
 use Rattle.vm_core.specs.vm_world.ServingLaws.{done_entry}
 use Rattle.vm_core.specs.vm_world.State.{KernelState, Sent}
@@ -34,7 +34,6 @@ IsForCall p call (Some note) = note.of ≡ Some (p, call)
 -- it has in hand is for the call.
 pub record MayCall (k : KernelSeen) (c : CallerSeen) (call : Call) : Type 0 where
   pub formed : IsWellFormed call
-  pub served : IsServed call
   pub alive : IsKnownAlive k.opening.parents c.seat.seen c.seat.own c.process
   pub next : MayComeNext k.opening.parents k.opening.entries c.seat.own c.process call
   pub hand : IsForCall c.process call c.seat.note

@@ -1,6 +1,5 @@
 //! The state that stands behind the lock, in a box, since the lock moves what it keeps several times a visit.
 ghost use Rattle.std.specs.Prelude.{◌≡◌, ◌<◌, ℕ, Some, None, length};
-ghost use Rattle.vm_core.specs.Calls.{IsServed};
 ghost use Rattle.vm_core.specs.Fits.{FitsAt};
 ghost use Rattle.vm_core.specs.vm_types.WellFormed.{IsWellFormed};
 ghost use Rattle.vm_core.specs.vm_world.Events.{IsEvent, CanTry};
@@ -73,7 +72,6 @@ impl<D: Disk> BoxedState<D> {
     ) -> Result<Tried, AllocError>
         requires fits { FitsAt self.old seat None }
         requires formed { IsWellFormed call.now }
-        requires served { IsServed call.now }
         requires may { CanTry self.old seat process call.now }
         requires none { sent.old ≡ None }
         // One event: what the try leaves, and the flight that is out then, which waits for its transfer.

@@ -1,7 +1,6 @@
 //! What a seat does while it has the state: it tries a call and begins the transfer that the call needs, ends a transfer, or moves a
 //! hand of the clock. No lock is named here.
 ghost use Rattle.std.specs.Prelude.{◌≡◌, ◌<◌, ℕ, Some, None, length, option_map};
-ghost use Rattle.vm_core.specs.Calls.{IsServed};
 ghost use Rattle.vm_core.specs.Fits.{FitsAt};
 ghost use Rattle.vm_core.specs.vm_types.WellFormed.{IsWellFormed};
 ghost use Rattle.vm_core.specs.vm_world.Events.{IsEvent, CanTry};
@@ -51,7 +50,6 @@ pub(crate) fn try_and_begin<D: Disk>(
 ) -> Result<Tried, AllocError>
     requires fits { FitsAt state.old seat None }
     requires formed { IsWellFormed call.now }
-    requires served { IsServed call.now }
     requires may { CanTry state.old seat process call.now }
     requires none { sent.old ≡ None }
     // One event: what the try leaves, and the flight that is out then, which waits for its transfer.

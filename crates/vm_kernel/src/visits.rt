@@ -1,7 +1,6 @@
 //! What a seat does from the moment that it has the state to the moment that it leaves it.
 ghost use Rattle.std.specs.Prelude.{◌≡◌, ◌<◌, ℕ, Some, None, length, true};
 ghost use Rattle.kernel_lock.specs.Seats.{IsSeatOf};
-ghost use Rattle.vm_core.specs.Calls.{IsServed};
 ghost use Rattle.vm_core.specs.Fits.{FitsAt};
 ghost use Rattle.vm_core.specs.vm_types.WellFormed.{IsWellFormed};
 ghost use Rattle.vm_core.specs.vm_world.Events.{CanTry};
@@ -39,7 +38,6 @@ pub(crate) fn try_and_leave<D: Disk>(
         × (seat.old.note ≡ None) }
     requires fits { FitsAt state seat.old.number None }
     requires formed { IsWellFormed call.now }
-    requires served { IsServed call.now }
     requires may { CanTry state seat.old.number process call.now }
     requires none { sent.old ≡ None }
     // The seat goes out of one event, with what is in hand then as its note.

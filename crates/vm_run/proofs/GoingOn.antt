@@ -12,7 +12,7 @@ use Rattle.volume_files.specs.vm_types.Parts.{next_part, part_file}
 use Rattle.volume_files.specs.flat_model.Births.{is_birth}
 use Rattle.volume_files.specs.flat_model.OpenLaws.{FollowsOn, IsOpenPart, MayFollow, last_entry}
 use Rattle.volume_files.specs.flat_model.Told.{entries_of}
-use Rattle.vm_core.specs.Calls.{IsOnOwnSpace, IsServed}
+use Rattle.vm_core.specs.Calls.{IsOnOwnSpace}
 use Rattle.vm_core.specs.Finish.{FitsStill}
 use Rattle.vm_core.specs.Fits.{FitsAt}
 use Rattle.vm_core.specs.vm_world.Events.{IsEvent, CanTry}
@@ -36,12 +36,7 @@ stays-still s t event still = (still.0, with_sent still.1 0 None, event.fits sti
 pub still-at : (s : KernelState) (seat : ℕ) → FitsStill s → FitsAt s seat None
 still-at s seat still = (still.0, still.1, still.2, still.3 seat)
 
--- a call on the process's own space is served
-pub is-served : (c : Call) → IsOnOwnSpace c → IsServed c
-is-served (Fork child) own = absurd own
-is-served c own = own
-
--- it is no part, and ends itself
+-- a call on the process's own space is no part, and ends itself
 no-part : (c : Call) → IsOnOwnSpace c → part_file c ≡ None
 no-part (Load a n) served = refl
 no-part (Store a n v) served = refl

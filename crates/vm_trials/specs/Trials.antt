@@ -1,9 +1,11 @@
 -- A state that is tried out, with what its seats have outside it; and the files of the trials. Inside: no public clause cites this.
-use Rattle.std.specs.Prelude.{◌≡◌, ◌<◌, ◌+◌, ◌^◌, ℕ, Bool, List, [], ◌∷◌, Option, None, Some, IfSome, IsSome, map, option_map, slice_index_or, length}
+use Rattle.std.specs.Prelude.{◌≡◌, ◌<◌, ◌≤◌, ◌+◌, ◌^◌, ℕ, Bool, List, [], ◌∷◌, Option, None, Some, IfSome, IsSome, map, option_map, slice_index_or, length}
 use Rattle.std.specs.FinMap as finite
 use Rattle.seg_ops.specs.page_store.Flight.{FlightSeen, note_of, fresh}
 use Rattle.vm_types.specs.WellFormed.{IsWellFormed}
+use Rattle.vm_types.specs.Pages.{line_rest}
 use Rattle.vm_types.specs.declared.call.Call.{Call}
+use Rattle.vm_types.specs.declared.call.Call.TheVariants.{Read, Write}
 use Rattle.vm_types.specs.declared.call.Entry.{Entry}
 use Rattle.vnode_files.specs.declared.vnode.FileInfo.{FileInfo}
 use Rattle.vnode_files.specs.Files.{FilesSeen, no_files, with_disk, with_next_file}
@@ -14,7 +16,6 @@ use Rattle.flat_model.specs.Told.{entries_of}
 use Rattle.seg_ops.specs.vm_world.Events.{MayBear}
 use Rattle.seg_ops.specs.vm_world.State.{KernelState, Caller, Sent, Seats, room_of, seats_of}
 use Rattle.seg_ops.specs.vm_world.StateFits.{StateFits}
-use Rattle.vm_core.specs.Calls.{IsServed}
 
 -- What a seat has outside: its transfer, and the process and call that it is for.
 abbrev pub TripSeen : Type 0
@@ -26,14 +27,20 @@ trip_sent t = record { note = note_of t.0; of = t.1 }
 abbrev pub seats_with : List (Option TripSeen) → Seats
 seats_with trips = seats_of (map (option_map trip_sent) trips)
 
--- A transfer is for a call that is served, or for none.
-abbrev pub IsOfServed : Option Caller → Type 0
-IsOfServed of = IfSome of (λ (c : Caller). IsServed c.1)
+-- The call is done with one entry, whatever is answered to it: it is no part of a read or a write, or the only one.
+abbrev pub IsOnePart : Call → Type 0
+IsOnePart (Read file offset len) = len ≤ line_rest offset
+IsOnePart (Write file offset line rest) = rest ≡ 0
+IsOnePart call = Unit {0}
+
+-- A transfer is for such a call, or for none.
+abbrev pub IsOfOnePart : Option Caller → Type 0
+IsOfOnePart of = IfSome of (λ (c : Caller). IsOnePart c.1)
 
 -- A transfer that wasn't made yet.
 pub record IsTrip (t : TripSeen) : Type 0 where
   pub fresh : t.0.outcome ≡ fresh
-  pub served : IsOfServed t.1
+  pub served : IsOfOnePart t.1
 
 -- The state has these seats and fits with what they have outside, and no call is between two parts: any entry may come next.
 pub record IsTrialState (s : KernelState) (trips : List (Option TripSeen)) : Type 0 where

@@ -3,8 +3,7 @@
 ghost use Rattle.std.specs.Prelude.{◌≡◌, ◌<◌, ℕ, List, true, false, IfOk};
 ghost use Rattle.block_device.specs.MemDiskLook.{look};
 ghost use Rattle.block_device.specs.MemSeen.{disk_of};
-ghost use Rattle.vm_core.specs.Calls.{IsServed};
-ghost use Rattle.vm_trials.specs.Trials.{trial_file, trial_files};
+ghost use Rattle.vm_trials.specs.Trials.{IsOnePart, trial_file, trial_files};
 
 use crate::mapping_tests::{change_mappings, sync_pages};
 use crate::trial::Told::{self, Busy, Done, Landed, Sent, Still};
@@ -130,7 +129,7 @@ fn rights(writable: bool) -> Prot {
 }
 
 fn zeros(addr: u32, length: u32, kind: Kind) -> Call
-    ensures { IsServed result }
+    ensures { IsOnePart result }
 {
     Call::Map {
         place: Place::At(addr),
@@ -143,7 +142,7 @@ fn zeros(addr: u32, length: u32, kind: Kind) -> Call
 }
 
 fn call_of(what: What) -> Call
-    ensures { IsServed result }
+    ensures { IsOnePart result }
 {
     match what {
         What::Load(addr) => Call::Load { addr, size: 4 },

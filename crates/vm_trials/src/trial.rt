@@ -1,8 +1,7 @@
 //! A state with what its seats have outside it, for tests: calls are tried, transfers begin and end, and hands move.
 ghost use Rattle.std.specs.Prelude.{◌≡◌, ◌<◌, ℕ, Some, None, IsSome, IsTrue, IfOk, length, option_map, replicate, slice_index_or, slice_set};
-ghost use Rattle.vm_core.specs.Calls.{IsServed};
 ghost use Rattle.seg_ops.specs.vm_world.Events.{MayBear};
-ghost use Rattle.vm_trials.specs.Trials.{IsTrialState, IsOfServed, MayTry};
+ghost use Rattle.vm_trials.specs.Trials.{IsTrialState, IsOfOnePart, IsOnePart, MayTry};
 
 use block_device::MemDisk;
 use seg_ops::{Flight, Hold, Plan};
@@ -62,7 +61,7 @@ fn send(
     requires seat { seat < length trips.old.items }
     requires idle { slice_index_or trips.old.items seat None ≡ None }
     requires kept { state.old.plan ≡ Some (record { seat = seat; plan = plan; of = of }) }
-    requires served { IsOfServed of }
+    requires served { IsOfOnePart of }
     // Its transfer is outside.
     ensures { IsTrialState state.new trips.new.items }
 {
@@ -172,7 +171,7 @@ impl Trial {
 
     /// Tries a call once. A transfer that it needs begins, where this says so.
     pub(crate) fn try_call(&mut self, seat: u32, call: &Call, begins: bool) -> Result<Told, Fail>
-        requires { IsServed call.now }
+        requires { IsOnePart call.now }
     {
         if !may_try(&self.state, &self.trips, seat, call) {
             return Err(Fail::new("the process can't make the call"));
@@ -207,7 +206,7 @@ impl Trial {
 
     /// Makes a call, with the transfers that it needs, eight at most; it ends where another seat holds it up.
     pub(crate) fn call(&mut self, seat: u32, call: &Call) -> Result<Told, Fail>
-        requires { IsServed call.now }
+        requires { IsOnePart call.now }
     {
         for _try in 0..8 {
             let tried = self.try_call(seat, call, true)?;

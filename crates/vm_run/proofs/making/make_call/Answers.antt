@@ -3,7 +3,7 @@ use Rattle.vm_core.specs.Calls.{AnswersCall}
 use Rattle.vm_core.specs.vm_world.Events.{IsEvent}
 use Rattle.vm_run.specs.Lines.{MadeNothing}
 use Rattle.vm_run.proofs.Attempts.{failed-made, made-nothing, need-none, no-busy}
-use Rattle.vm_run.proofs.GoingOn.{goes-on, is-served, may-try, stays-still, still-at}
+use Rattle.vm_run.proofs.GoingOn.{goes-on, may-try, stays-still, still-at}
 use Rattle.vm_run.proofs.Trips.{nothing-yet, then-too}
 use Rattle.vm_run.proofs.making.make_call.Given.{Over}
 use Rattle.vm_run.proofs.making.make_call.Goals as goal
@@ -14,9 +14,6 @@ loop-init g c = nothing-yet c.args.state.now
 
 pub try_call-requires-clause-fits : goal.try_call-requires-clause-fits
 try_call-requires-clause-fits g c = still-at c.loop.state 0 (stays-still c.args.state.now c.loop.state c.loop.invariant.event c.requires.still)
-
-pub try_call-requires-clause-served : goal.try_call-requires-clause-served
-try_call-requires-clause-served g c = is-served c.args.call.now c.requires.served
 
 pub try_call-requires-clause-may : goal.try_call-requires-clause-may
 try_call-requires-clause-may g c =

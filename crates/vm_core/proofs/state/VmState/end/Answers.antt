@@ -13,7 +13,7 @@ use Rattle.fault_entry.specs.vm_world.Failures.{io_entry, with_entry_made}
 use Rattle.fault_entry.specs.vm_world.State.{KernelState, Caller, room_of}
 use Rattle.fault_entry.specs.vm_world.StateSteps.{after_step}
 use Rattle.vm_core.specs.Flights.{IsBack, EndsWith}
-use Rattle.vm_core.specs.State.{calls_without}
+use Rattle.file_calls.specs.Locks.{calls_without}
 use Rattle.vm_core.proofs.Landings.{quiet-end, failed-end, locks-after, starts-after, flight-out, ended, added, own-seat}
 use Rattle.vm_core.proofs.state.VmState.end.Given.{Over}
 use Rattle.vm_core.proofs.state.VmState.end.Goals.{After-add}

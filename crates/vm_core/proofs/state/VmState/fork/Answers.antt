@@ -1,7 +1,4 @@
-use Rattle.std.proofs.Common.{◌≡◌, ℕ, Some, None, sym, subst}
-use Rattle.std.specs.Prelude.{IfOk}
-use Rattle.fault_entry.specs.vm_types.declared.call.Call.{Call}
-use Rattle.fault_entry.specs.vm_types.declared.call.Call.TheVariants.{Fork}
+use Rattle.std.proofs.Common.{None, sym, subst}
 use Rattle.fault_entry.specs.vm_world.Events.{IsEvent, MayBear}
 use Rattle.fault_entry.specs.vm_world.State.{KernelState}
 use Rattle.fault_entry.proofs.vm_world.Told.{event_law}

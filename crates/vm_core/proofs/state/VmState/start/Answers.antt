@@ -1,7 +1,7 @@
 use Rattle.fault_entry.proofs.page_store.NewLemmas.{numbers-seen as same-numbers}
 use Rattle.std.proofs.Common.{ℕ, Bool, List, length, Option, None, refl, sym, ap, subst, ◌∙◌, arith}
 use Rattle.std.proofs.lemmas.List.{length-replicate}
-use Rattle.std.specs.Prelude.{option_map}
+use Rattle.std.specs.Prelude.{option_map, slice_index_or}
 use Rattle.std.specs.FinSet as set
 use Rattle.fault_entry.specs.anon_slots.Slots.{AnonSlotsSeen}
 use Rattle.fault_entry.specs.page_store.Bays.{pairs_seen, AreNumbers}
@@ -36,7 +36,7 @@ returns-in-Ok-new-clause-opening g c =
     (subst (λ (l : List (ℕ × _)). HaveCounted (pairs_seen g.D.Disk.seen l)) c.as_slice.ensures.value c.count_disks.ensures) c.count_swap.ensures t.anon t.slots c.new-in-Ok-new.ensures t.frames t.places
     (files-fit setup.files disks numbers c.requires.files c.check_files.ensures.few c.check_files.ensures.sound)
     (disks-fit c.in-Ok-new.store.bays setup.files disks swap setup.slots new.store.bays numbers c.requires.files c.requires.swap)
-    t.spaces (λ p. ap (λ (marks : List Bool). set.contains (born_of marks) p) t.born ∙ born-tops setup.parents.items p) t.history refl (λ f. at-replicate 64 f None) t.syncs refl
+    t.spaces (λ p. ap (λ (marks : List Bool). set.contains (born_of marks) p) t.born ∙ born-tops setup.parents.items p) t.history refl (λ f. ap (λ (calls : List (Option ℕ)). slice_index_or calls f None) c.new-in-Ok-new-3.ensures ∙ at-replicate 64 f None) t.syncs refl
 
 pub returns-in-Ok-new-clause-fits : goal.returns-in-Ok-new-clause-fits
 returns-in-Ok-new-clause-fits g c = opening_law.fits _ (returns-in-Ok-new-clause-opening g c)
