@@ -4,6 +4,8 @@
 #[cfg(test)]
 mod copy_tests;
 #[cfg(test)]
+mod file_tests;
+#[cfg(test)]
 mod fork_tests;
 #[cfg(test)]
 mod histories;

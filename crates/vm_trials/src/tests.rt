@@ -5,6 +5,7 @@ ghost use Rattle.block_device.specs.MemDiskLook.{look};
 ghost use Rattle.block_device.specs.MemSeen.{disk_of};
 ghost use Rattle.vm_trials.specs.Trials.{IsOnePart, trial_file, trial_files};
 
+use crate::file_tests::change_files;
 use crate::mapping_tests::{change_mappings, sync_pages};
 use crate::trial::Told::{self, Busy, Done, Landed, Sent, Still};
 use crate::trial::Trial;
@@ -16,7 +17,7 @@ use std::alloc::{AllocError, Global};
 use std::test::Fail;
 use vm_core::{Finished, Setup, VmState};
 use vm_types::Reply::{Mapped, Word};
-use vm_types::{Call, Errno, Kind, Object, Place, Prot, Reply, Signal};
+use vm_types::{Call, Errno, Kind, Line, Object, Place, Prot, Reply, Signal, line_rest};
 use vnode_files::{Extent, Extents, FileInfo, FileName, Files};
 
 #[derive(Clone, Copy, Debug)]
@@ -51,6 +52,12 @@ pub(crate) enum What {
     Fork(u32),
     /// Syncs so many bytes from an address on.
     Sync(u32, u32),
+    /// Reads so many bytes of a file from an offset on, in its line of 64.
+    Read(u32, u32, u32),
+    /// Writes so many bytes of this value into a file from an offset on, in its line of 64.
+    Write(u32, u32, u32, u8),
+    /// Gives a file this length.
+    Truncate(u32, u32),
     Exit,
 }
 
@@ -141,6 +148,12 @@ fn zeros(addr: u32, length: u32, kind: Kind) -> Call
     }
 }
 
+/// So many bytes of this value, 64 at most.
+fn line_of(count: u32, byte: u8) -> Line {
+    let bytes = [byte; 64];
+    Line::new(&bytes[..count.min(64) as usize])
+}
+
 fn call_of(what: What) -> Call
     ensures { IsOnePart result }
 {
@@ -169,6 +182,18 @@ fn call_of(what: What) -> Call
         },
         What::Fork(child) => Call::Fork { child },
         What::Sync(addr, length) => Call::Sync { addr, length },
+        What::Read(file, offset, length) => Call::Read {
+            file,
+            offset,
+            length: length.min(line_rest(offset)),
+        },
+        What::Write(file, offset, count, byte) => Call::Write {
+            file,
+            offset,
+            bytes: line_of(count, byte),
+            rest: 0,
+        },
+        What::Truncate(file, length) => Call::Truncate { file, length },
         What::Exit => Call::Exit,
     }
 }
@@ -504,6 +529,8 @@ fn closed(acts: Acts, disk: u32, block: u8) -> Option<[u8; 6]> {
         (Acts::SyncPages, 0, 1) => [0, 0, 0, 8, 1, 1],
         (Acts::SyncPages, 0, 2) => [0, 0, 0, 6, 2, 2],
         (Acts::ChangeMappings, 0, 1) => [0, 0, 0, 4, 1, 1],
+        (Acts::ChangeFiles, 0, 1) => [1, 0x61, 0, 0, 0, 0],
+        (Acts::ChangeFiles, 0, 2..=15) => [0; 6],
         (_, 0, _) => [block; 6],
         _ => [16 | block; 6],
     })
@@ -583,6 +610,7 @@ pub(crate) enum Acts {
     UseFiles,
     SyncPages,
     ChangeMappings,
+    ChangeFiles,
 }
 
 fn make_acts(trial: &mut Trial, acts: Acts) -> Result<(), Fail> {
@@ -590,6 +618,7 @@ fn make_acts(trial: &mut Trial, acts: Acts) -> Result<(), Fail> {
         Acts::UseFiles => use_files(trial),
         Acts::SyncPages => sync_pages(trial),
         Acts::ChangeMappings => change_mappings(trial),
+        Acts::ChangeFiles => change_files(trial),
     }
 }
 
