@@ -1,4 +1,2 @@
 pub mod TrialLemmas
 pub mod TrialFiles
-pub mod PageTrialLemmas
-pub mod SlotTrialLemmas

@@ -1,3 +1,1 @@
 pub mod Trials
-pub mod PageTrials
-pub mod SlotTrials

@@ -14,11 +14,7 @@ mod many_tests;
 #[cfg(test)]
 mod mapping_tests;
 #[cfg(test)]
-mod page_tests;
-#[cfg(test)]
 mod segment_tests;
-#[cfg(test)]
-mod slot_tests;
 #[cfg(test)]
 mod swap_tests;
 #[cfg(test)]

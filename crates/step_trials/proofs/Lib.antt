@@ -1,0 +1,2 @@
+pub mod PageTrialLemmas
+pub mod SlotTrialLemmas

@@ -1,0 +1,2 @@
+pub mod PageTrials
+pub mod SlotTrials
