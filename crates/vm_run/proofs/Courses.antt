@@ -30,7 +30,7 @@ use Rattle.volume_files.specs.Attached.{AttachedSeen, FileDisksTell, bare_disks}
 use Rattle.volume_files.specs.Closed.{SayTables, StoreFiles, flat_bytes, info_at, infos_in_flat, mode_in, modes_in}
 use Rattle.vm_run.specs.Course.{IsReady}
 use Rattle.vm_run.specs.Ended.{End, HasLateCause, CountsReach}
-use Rattle.volume_files.specs.Handed.{HaveTold, HandsAll, HasSpecSize, disk_numbers, disk_handed, plan_disks, sizes_of}
+use Rattle.volume_files.specs.Handed.{HaveTold, HandsAll, HasSpecSize, disk_numbers, disk_handed, volumes_of, sizes_of}
 use Rattle.volume_files.specs.Opened.{OpenedFile, disk_specs, infos_of, names_of, opening_flat, stored_bytes}
 use Rattle.vm_run.specs.Played.{IsStarted, KernelLeaves, LeftSeen, IsDiskOf}
 use Rattle.volume_files.specs.Written.{infos_made}
@@ -84,10 +84,10 @@ module _ (st : ℕ) (ft : Option RunFault) (g : Given) (what : Asked) (files : L
   sizes-old : map (λ (d : ℕ × DiskSeen). d.1.size) new ≡ map (λ (d : ℕ × DiskSeen). d.1.size) a.disks
   sizes-old = sizes-written l.disks new w ∙ left.disks.sizes ∙ ap (map (λ (d : ℕ × DiskSeen). d.1.size)) started.racked
 
-  pub pairs-new : plan_disks what.plan (bare_disks new) ≡ new
+  pub pairs-new : volumes_of what.plan (bare_disks new) ≡ new
   pairs-new = ap (λ (ns : List ℕ). zip ns (bare_disks new)) (sym ready.placed.numbers ∙ sym numbers-old) ∙ zip-back new
 
-  pairs-old : plan_disks what.plan (bare_disks a.disks) ≡ a.disks
+  pairs-old : volumes_of what.plan (bare_disks a.disks) ≡ a.disks
   pairs-old = ap (λ (ns : List ℕ). zip ns (bare_disks a.disks)) (sym ready.placed.numbers) ∙ zip-back a.disks
 
   pub sizes-new : sizes_of what.plan (bare_disks new) ≡ disk_sizes a.disks
@@ -146,7 +146,7 @@ module _ (st : ℕ) (ft : Option RunFault) (g : Given) (what : Asked) (files : L
   reached k e n before after at io = let x = left.reached k e n before after at io in by_disk x.0 x.1 x.2
     where
       handed : Bool → Option DiskSeen
-      handed eight = if◌then◌else◌ eight l.swap (lookup (λ m. m == n) (plan_disks what.plan (bare_disks new)))
+      handed eight = if◌then◌else◌ eight l.swap (lookup (λ m. m == n) (volumes_of what.plan (bare_disks new)))
 
       some : (o : Option DiskSeen) (d : DiskSeen) → o ≡ Some d → after ≤ d.faults → IsSomeAnd o (λ (x : DiskSeen). after ≤ x.faults)
       some o d is low = subst (λ (p : Option DiskSeen). IsSomeAnd p (λ (x : DiskSeen). after ≤ x.faults)) (sym is) low
@@ -246,7 +246,7 @@ module _ (st : ℕ) (ft : Option RunFault) (g : Given) (what : Asked) (files : L
     counted = record {
       risen = f.risen;
       disk = disk;
-      back = ap (λ b. if◌then◌else◌ b l.swap (lookup (λ m. m == f.disk) (plan_disks what.plan (bare_disks new)))) (other f.disk low)
+      back = ap (λ b. if◌then◌else◌ b l.swap (lookup (λ m. m == f.disk) (volumes_of what.plan (bare_disks new)))) (other f.disk low)
           ∙ ap (lookup (λ m. m == f.disk)) pairs-new ∙ lookup-at f.disk new i disk (λ j k x y xj yk is. have.numbers j k x y xj yk is) at;
       last = last;
     };

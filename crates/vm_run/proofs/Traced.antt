@@ -31,7 +31,7 @@ use Rattle.volume_files.specs.Attached.{ArePlaced, AttachedSeen, FileDisksTell, 
 use Rattle.volume_files.specs.Closed.{StoreFiles, info_at}
 use Rattle.vm_run.specs.Course.{AreReadBytes, TraceStops, opening_stop}
 use Rattle.vm_run.specs.Ended.{End, stop_end}
-use Rattle.volume_files.specs.Handed.{AreUncounted, HandsAll, HasDiskCause, HasSpecSize, HaveSpecSizes, HaveTold, IsCountedBy, plan_disks, sizes_of, AreWrittenAt, IsSwapAsGiven, block_told}
+use Rattle.volume_files.specs.Handed.{AreUncounted, HandsAll, HasDiskCause, HasSpecSize, HaveSpecSizes, HaveTold, IsCountedBy, volumes_of, sizes_of, AreWrittenAt, IsSwapAsGiven, block_told}
 use Rattle.volume_files.specs.Opened.{OpenedFile, opened_bytes_at, disk_specs, infos_of, numbered_plan, stored_bytes, line_files_of}
 use Rattle.volume_files.specs.Written.{infos_made}
 use Rattle.vm_run.specs.Run.{AreOpenedBytes, CaseOf, IsOpened, Outside, opening_part, wrote_before}
@@ -217,7 +217,7 @@ pub opening-read : (what : Asked) (files : List OpenedFile) (bytes : ℕ → Lis
     → ArePlaced what.plan holds files a made → AreOnlyRead a.disks new
     → trace_opening what.options (numbered_plan files what.plan) (disk_sizes a.disks) (infos_of files) bytes ≡ opening_part what files (bare_disks new) bytes
 opening-read what files bytes a new made holds p r =
-    let pairs : plan_disks what.plan (bare_disks new) ≡ new = ap (λ (ns : List ℕ). zip ns (bare_disks new)) (sym p.numbers ∙ sym r.numbers) ∙ zip-back new in
+    let pairs : volumes_of what.plan (bare_disks new) ≡ new = ap (λ (ns : List ℕ). zip ns (bare_disks new)) (sym p.numbers ∙ sym r.numbers) ∙ zip-back new in
     let sizes : sizes_of what.plan (bare_disks new) ≡ disk_sizes a.disks = ap disk_sizes pairs ∙ pairs-read a.disks new r in
     ap (λ (z : List (ℕ × ℕ)). trace_opening what.options what.plan z (infos_of files) bytes) (sym sizes)
 
@@ -233,7 +233,7 @@ module _ (st : ℕ) (ft : Option RunFault) (g : Given) (o : Outside) (what : Ask
   tell t = tell-read (infos_of files) a.disks new r (λ i k disk at lt own.
       All-slice_get (λ (d : DiskSeen). IsSome d.content) (bare_disks new) i disk.1 t.each (at-map (λ (q : ℕ × DiskSeen). q.1) new i disk at))
 
-  pairs : plan_disks what.plan (bare_disks new) ≡ new
+  pairs : volumes_of what.plan (bare_disks new) ≡ new
   pairs = ap (λ (ns : List ℕ). zip ns (bare_disks new)) (sym p.numbers ∙ sym r.numbers) ∙ zip-back new
 
   sizes : sizes_of what.plan (bare_disks new) ≡ disk_sizes a.disks
@@ -263,7 +263,7 @@ module _ (st : ℕ) (ft : Option RunFault) (g : Given) (o : Outside) (what : Ask
       record {
         risen = k.fault.risen;
         disk = k.is.1;
-        back = ap (λ (b : Bool). if b then a.swap else lookup (λ m. m == n) (plan_disks what.plan (bare_disks new))) (other n (subst (λ (m : ℕ). m < 8) (sym (is ∙ k.same)) (low k.i k.was k.there)))
+        back = ap (λ (b : Bool). if b then a.swap else lookup (λ m. m == n) (volumes_of what.plan (bare_disks new))) (other n (subst (λ (m : ℕ). m < 8) (sym (is ∙ k.same)) (low k.i k.was k.there)))
             ∙ ap (lookup (λ m. m == n)) pairs
             ∙ lookup-at n new k.i k.is.1 (have-read made a.disks new r p.have).numbers (k.now ∙ ap (λ (m : ℕ). Some (m, k.is.1)) (sym is));
         last = k.fault.last;

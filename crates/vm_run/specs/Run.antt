@@ -26,7 +26,7 @@ use Rattle.volume_files.specs.Closed.{StoreFiles, SayTables, infos_in_flat, flat
 use Rattle.vm_run.specs.Ending.{status_of, fault_of, last_line_of}
 use Rattle.vm_run.specs.Ended.{End, HasLateCause, CountsReach}
 use Rattle.volume_files.specs.Handed.{AreUncounted, AreUntouched, AreWrittenAt, HaveTold, RackTells, HandsNone, HandsFront, HandsAll, HandsRefused, HasDiskCause}
-use Rattle.volume_files.specs.Handed.{HasOpeningCause, HasRefusalCause, StopsAttaching, plan_disks, sizes_of, handed_count}
+use Rattle.volume_files.specs.Handed.{HasOpeningCause, HasRefusalCause, StopsAttaching, volumes_of, sizes_of, handed_count}
 use Rattle.volume_files.specs.Opened.{line_files_of, ComesTo, OpenedFile, opened_files, infos_of, names_of, numbered_plan, opening_flat}
 use Rattle.volume_files.specs.Texts.{Wrote, WroteAndFront, WroteAndPart, WroteFront, WroteOn, WrotePart, IsPageUnread, sections_before, trace_front}
 use Rattle.vm_run.specs.AskedTexts.{files_or_none, middle_text, trace_opening}
@@ -186,12 +186,12 @@ pub record Begun (g : Given) (what : Asked) (files : List OpenedFile) (bytes : �
 pub record LeavesFiles (g : Given) (what : Asked) (files : List OpenedFile) (infos : List FileInfo) (e : End) : Type 0 where
   pub modes : modes_in infos ≡ modes_in (infos_of files)
   pub records : DisksTell g what e → infos ≡ infos_in_flat (names_of files) (flat_closed what files e.disks e.history.entries).files
-  pub stored : DisksTell g what e → StoreFiles (plan_disks what.plan e.disks) infos (flat_bytes (flat_closed what files e.disks e.history.entries).files)
+  pub stored : DisksTell g what e → StoreFiles (volumes_of what.plan e.disks) infos (flat_bytes (flat_closed what files e.disks e.history.entries).files)
 
 -- ITS FILES WERE CLOSED: the disks have them, and block 0 of each disk says the table of its files.
 pub record ClosesFiles (g : Given) (what : Asked) (files : List OpenedFile) (infos : List FileInfo) (e : End) : Type 0 where
   pub left : LeavesFiles g what files infos e
-  pub tables : SayTables (plan_disks what.plan e.disks) infos
+  pub tables : SayTables (volumes_of what.plan e.disks) infos
 
 -- The bytes of the files that were read back, each as long as its record says; where the disks tell, those of flat memory after the history.
 pub record AreClosedBytes (g : Given) (what : Asked) (files : List OpenedFile) (infos : List FileInfo) (e : End) (bytes : ℕ → List ℕ) : Type 0 where

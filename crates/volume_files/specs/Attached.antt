@@ -20,9 +20,9 @@ use Rattle.volume_files.specs.declared.stops.OpenStop.TheVariants as halt
 use Rattle.volume_files.specs.declared.stops.HandedBack.{HandedBack}
 use Rattle.volume_files.specs.Closed.{StoreFiles, info_at}
 use Rattle.volume_files.specs.Handed.{AreUntouched, AreWrittenAt, HaveTold, RackTells, HandsFront, HandsAll, HandsRefused, HasDiskCause, HasOpeningCause}
-use Rattle.volume_files.specs.Handed.{HasRefusalCause, IsSwapAsGiven, IsSwapFor, StopsAttaching, disk_numbers, sizes_of}
+use Rattle.volume_files.specs.Handed.{HasRefusalCause, IsSwapAsGiven, IsSwapFor, StopsAttaching, volume_numbers, sizes_of}
 use Rattle.volume_files.specs.Written.{LieWell, HaveDisks, HaveFirstBlocks}
-use Rattle.volume_files.specs.Opened.{ComesTo, OpenedFile, line_files_of, opened_files, infos_of, opened_bytes_at, table_on, disk_specs}
+use Rattle.volume_files.specs.Opened.{ComesTo, OpenedFile, line_files_of, opened_files, infos_of, opened_bytes_at, table_on, volume_specs}
 
 -- The disks with their numbers, in rising number; the table of each; and the swap disk.
 pub record AttachedSeen : Type 0 where
@@ -73,7 +73,7 @@ AreMounted holds specs disks tables = ⊥
 
 -- ALL DISKS OF A PLAN ARE ATTACHED, the swap disk too where there are slots.
 pub record AreAttached (plan : PlanSeen) (holds : Spec → Option (List (List ℕ))) (a : AttachedSeen) : Type 0 where
-  pub mounted : AreMounted holds (disk_specs plan.setup) a.disks a.tables
+  pub mounted : AreMounted holds (volume_specs plan) a.disks a.tables
   pub swap : IsSwapFor (amounts_of plan.setup).slots a.swap
   pub blank : IsSwapAsGiven (amounts_of plan.setup).slots a.swap
 
@@ -119,7 +119,7 @@ FileDisksTell infos disks = (i k : ℕ) (disk : ℕ × DiskSeen) → slice_get d
 
 -- ALL FILES ARE PLACED: their records, on disks that are there; where the disks tell, as the set-up rules say; and each disk that tells has their bytes.
 pub record ArePlaced (plan : PlanSeen) (holds : Spec → Option (List (List ℕ))) (files : List OpenedFile) (a : AttachedSeen) (made : FilesSeen) : Type 0 where
-  pub numbers : map (λ (d : ℕ × DiskSeen). d.0) a.disks ≡ disk_numbers plan
+  pub numbers : map (λ (d : ℕ × DiskSeen). d.0) a.disks ≡ volume_numbers plan
   pub handed : HandsAll plan (bare_disks a.disks) a.swap
   pub sizes : made.disks ≡ finite.from_entries (map (λ (d : ℕ × DiskSeen). (d.0, d.1.size)) a.disks)
   pub fresh : made.files ≡ map fresh_vnode (infos_of files)

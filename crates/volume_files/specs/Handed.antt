@@ -16,7 +16,7 @@ use Rattle.vm_report.specs.vm_script.PlanSeen.{PlanSeen}
 use Rattle.vm_report.specs.vm_script.Rules.{amounts_of}
 use Rattle.volume_files.specs.declared.stops.Refusal.{Refusal}
 use Rattle.volume_files.specs.declared.stops.Refusal.TheVariants as refusal
-use Rattle.volume_files.specs.Opened.{ComesTo, OpenedFile, disk_specs, opened_files, table_of_read}
+use Rattle.volume_files.specs.Opened.{ComesTo, OpenedFile, attached_specs, volume_specs, opened_files, table_of_read}
 
 -- The rack tells what it holds for each disk by path.
 abbrev pub TellsSpec : (Spec → Option (List (List ℕ))) → Spec → Type 0
@@ -24,27 +24,31 @@ TellsSpec holds (spec.Blank number blocks) = Unit {0}
 TellsSpec holds (spec.Path number path) = IsSome (holds (spec.Path number path))
 
 abbrev pub RackTells : (Spec → Option (List (List ℕ))) → PlanSeen → Type 0
-RackTells holds plan = All (TellsSpec holds) (disk_specs plan.setup)
+RackTells holds plan = All (TellsSpec holds) (attached_specs plan)
 
 -- Each disk that came back tells its blocks.
 pub record HaveTold (disks : List DiskSeen) (swap : Option DiskSeen) : Type 0 where
   pub each : All (λ (d : DiskSeen). IsSome d.content) disks
   pub last : IfSome swap (λ d. IsSome d.content)
 
--- The numbers of a plan's disks, in rising order; and the disks with their numbers.
+-- The numbers of the disks that are attached for a plan, in rising order.
 abbrev pub disk_numbers : PlanSeen → List ℕ
-disk_numbers plan = map spec_number (disk_specs plan.setup)
+disk_numbers plan = map spec_number (attached_specs plan)
 
-abbrev pub plan_disks : PlanSeen → List DiskSeen → List (ℕ × DiskSeen)
-plan_disks plan disks = zip (disk_numbers plan) disks
+-- The numbers of a plan's volumes, in rising order; and the volumes with their numbers, by the disks that came back.
+abbrev pub volume_numbers : PlanSeen → List ℕ
+volume_numbers plan = map spec_number (volume_specs plan)
 
--- The disk of a number; that of the swap slots has number 8.
+abbrev pub volumes_of : PlanSeen → List DiskSeen → List (ℕ × DiskSeen)
+volumes_of plan disks = zip (volume_numbers plan) disks
+
+-- The volume of a number, or the disk of the swap slots, which has number 8.
 abbrev pub disk_handed : PlanSeen → List DiskSeen → Option DiskSeen → ℕ → Option DiskSeen
-disk_handed plan disks swap number = if number == 8 then swap else lookup (λ n. n == number) (plan_disks plan disks)
+disk_handed plan disks swap number = if number == 8 then swap else lookup (λ n. n == number) (volumes_of plan disks)
 
--- How many blocks each disk has, by number.
+-- How many blocks each volume has, by number.
 abbrev pub sizes_of : PlanSeen → List DiskSeen → List (ℕ × ℕ)
-sizes_of plan disks = map (λ (d : ℕ × DiskSeen). (d.0, d.1.size)) (plan_disks plan disks)
+sizes_of plan disks = map (λ (d : ℕ × DiskSeen). (d.0, d.1.size)) (volumes_of plan disks)
 
 -- A blank disk has as many blocks as its spec says.
 abbrev pub HasSpecSize : Spec → DiskSeen → Type 0
@@ -67,13 +71,13 @@ IsSwapFor slots swap = MatchOption swap (slots ≡ 0) (λ d. (0 < slots) × (d.s
 
 -- The disks of a front of the plan's are handed back, in rising number, and the swap disk or none; with a disk the swap disk too, where there are slots.
 pub record HandsFront (plan : PlanSeen) (disks : List DiskSeen) (swap : Option DiskSeen) : Type 0 where
-  pub each : HaveSpecSizes (take (length disks) (disk_specs plan.setup)) disks
+  pub each : HaveSpecSizes (take (length disks) (attached_specs plan)) disks
   pub first : IfSome swap (λ d. (0 < (amounts_of plan.setup).slots) × (d.size ≡ (amounts_of plan.setup).slots))
   pub before : 0 < length disks → IsSwapFor (amounts_of plan.setup).slots swap
 
 -- All of the plan's disks are handed back, in rising number, and the swap disk where there are slots.
 pub record HandsAll (plan : PlanSeen) (disks : List DiskSeen) (swap : Option DiskSeen) : Type 0 where
-  pub each : HaveSpecSizes (disk_specs plan.setup) disks
+  pub each : HaveSpecSizes (attached_specs plan) disks
   pub first : IsSwapFor (amounts_of plan.setup).slots swap
 
 -- The swap disk where there are slots, and the disks whose numbers pass a test, which are a front of the plan's.
@@ -112,7 +116,7 @@ abbrev pub IsSwapAsGiven : ℕ → Option DiskSeen → Type 0
 IsSwapAsGiven slots swap = IfSome swap (λ d. IsAttached (spec.Blank 8 slots) None d)
 
 pub record AreUntouched (plan : PlanSeen) (holds : Spec → Option (List (List ℕ))) (disks : List DiskSeen) (swap : Option DiskSeen) : Type 0 where
-  pub each : AreAsGiven holds (disk_specs plan.setup) disks
+  pub each : AreAsGiven holds (attached_specs plan) disks
   pub last : IsSwapAsGiven (amounts_of plan.setup).slots swap
 
 -- Each of these disks has counted no fault.
@@ -136,7 +140,7 @@ SpareBlock files number block = All (λ f. SparesBlock f.info f.bytes number blo
 
 -- The disks were written at most where the bytes of these files lie: each other block is as the rack gave it, and so is the swap disk.
 pub record AreWrittenAt (plan : PlanSeen) (holds : Spec → Option (List (List ℕ))) (files : List OpenedFile) (disks : List DiskSeen) (swap : Option DiskSeen) : Type 0 where
-  pub each : (i : ℕ) (s : Spec) (d : DiskSeen) → slice_get (disk_specs plan.setup) i ≡ Some s → slice_get disks i ≡ Some d
+  pub each : (i : ℕ) (s : Spec) (d : DiskSeen) → slice_get (attached_specs plan) i ≡ Some s → slice_get disks i ≡ Some d
       → (was : DiskSeen) × IsAttached s (holds s) was × ((block : ℕ) → SpareBlock files (spec_number s) block → block_told d.content block ≡ block_told was.content block)
   pub last : IsSwapAsGiven (amounts_of plan.setup).slots swap
 

@@ -43,6 +43,14 @@ disk_numbered setup number = option_and_then (λ l. given_disk l.act) (find (λ 
 abbrev pub disk_specs : List SetupLine → List Spec
 disk_specs setup = filter_map (disk_numbered setup) (range_with_len 0 8)
 
+-- WHAT IS ATTACHED for a plan, in the order in which it is: its disks, in rising number. Whatever is said of disks that are handed back goes by these.
+abbrev pub attached_specs : PlanSeen → List Spec
+attached_specs plan = disk_specs plan.setup
+
+-- THE VOLUMES of a plan: the disks on which files lie, each of which is one that is attached. Whatever is said of files, tables and sizes goes by these.
+abbrev pub volume_specs : PlanSeen → List Spec
+volume_specs plan = attached_specs plan
+
 -- The blocks of the disk of a spec as it is attached.
 abbrev pub blocks_held : (Spec → Option (List (List ℕ))) → Spec → List (List ℕ)
 blocks_held holds (spec.Blank number blocks) = replicate blocks (replicate 4096 0)
@@ -154,7 +162,7 @@ files_opened_on disks setup = with_line_files (size_held disks) (if_few (mounted
 
 -- THE FILES AS THEY ARE OPENED: those of the disks and then those of the script's lines; or the first set-up rule that is broken.
 abbrev pub opened_files : PlanSeen → (Spec → Option (List (List ℕ))) → Result (List OpenedFile) Refusal
-opened_files plan holds = files_opened_on (disks_held holds (disk_specs plan.setup)) plan.setup
+opened_files plan holds = files_opened_on (disks_held holds (volume_specs plan)) plan.setup
 
 -- The records of the files that tables have, on the disks of these numbers.
 abbrev pub mounted_infos : List ℕ → List TableSeen → List FileInfo
@@ -191,7 +199,7 @@ AreTablesRead holds specs disks tables = ⊥
 pub record ComesTo (plan : PlanSeen) (holds : Spec → Option (List (List ℕ))) (sizes : List (ℕ × ℕ)) (files : Result (List OpenedFile) Refusal) : Type 0 where
   pub tables : List TableSeen
   pub found : List OpenedFile
-  pub read : AreTablesRead holds (disk_specs plan.setup) sizes tables
+  pub read : AreTablesRead holds (volume_specs plan) sizes tables
   pub mounted : infos_of found ≡ mounted_infos (map (λ (d : ℕ × ℕ). d.0) sizes) tables
   pub lines : with_line_files (size_among sizes) (if_few (Ok found)) plan.setup ≡ files
 
