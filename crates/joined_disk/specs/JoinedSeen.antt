@@ -1,10 +1,10 @@
 -- What is seen of a disk that stands for one disk or for two. Public clauses cite this.
-use Rattle.std.specs.Prelude.{◌≡◌, Bool, true, false, Option, Some, None}
+use Rattle.std.specs.Prelude.{◌≡◌, ◌⊎◌, Bool, true, false, List, length, Option, Some, None}
 use Rattle.disk_stripe.specs.block_device.DiskSeen.{DiskSeen}
 use Rattle.disk_stripe.specs.StripeLook.{stripe_disks}
-use Rattle.disk_stripe.specs.StripeSeen.{stripe_seen_by}
+use Rattle.disk_stripe.specs.StripeSeen.{stripe_seen, stripe_seen_by}
 use Rattle.disk_mirror.specs.MirrorLook.{mirror_look}
-use Rattle.disk_mirror.specs.MirrorSeen.{mirror_seen, new_mirror}
+use Rattle.disk_mirror.specs.MirrorSeen.{HasFreshSide, SameWhereFresh, mirror_disk, mirror_seen, new_mirror}
 use Rattle.joined_disk.specs.declared.joined.JoinedDisk.{JoinedDisk}
 use Rattle.joined_disk.specs.declared.joined.JoinedDisk.TheVariants.{Plain, Striped, Mirrored}
 
@@ -26,3 +26,18 @@ StandsFor seen a None mirror (Plain d) = d ≡ a
 StandsFor seen a (Some b) false (Striped s) = stripe_disks s ≡ (a, b)
 StandsFor seen a (Some b) true (Mirrored m) = mirror_look m ≡ new_mirror a b (seen a).size
 StandsFor seen a b mirror d = ⊥
+
+-- A mirror of two disks, as it is seen by what is seen of them: each of its blocks is fresh on one of them, and is that one's block.
+pub record IsMirrorOf (a b disk : DiskSeen) : Type 0 where
+  pub fresh_a : List Bool
+  pub fresh_b : List Bool
+  pub seen : disk ≡ mirror_disk fresh_a a b
+  pub marks_a : length fresh_a ≡ a.size
+  pub marks_b : length fresh_b ≡ a.size
+  pub somewhere : HasFreshSide fresh_a fresh_b
+  pub same : SameWhereFresh fresh_a fresh_b a.content b.content
+
+-- A disk that stands for one disk or for two, as it is seen by what is seen of them: as that one, as a stripe, or as a mirror. Two have as many blocks.
+abbrev pub IsSeenBy : DiskSeen → Option DiskSeen → DiskSeen → Type 0
+IsSeenBy a None disk = disk ≡ a
+IsSeenBy a (Some b) disk = (a.size ≡ b.size) × ((disk ≡ stripe_seen a b) ⊎ IsMirrorOf a b disk)

@@ -14,11 +14,15 @@ pub enum JoinedDisk<D: Disk> {
 }
 
 impl<D: Disk> JoinedDisk<D> {
-    ghost use Rattle.joined_disk.specs.JoinedSeen.{joined_parts};
+    ghost use Rattle.std.specs.Prelude.{option_map};
+    ghost use Rattle.joined_disk.specs.JoinedSeen.{IsSeenBy, joined_parts, joined_seen};
 
     /// The disk that it is, or the two that it stands for, as they are.
     pub fn parts(self) -> (D, Option<D>)
-        ensures { result ≡ joined_parts self }
+        ensures parts { result ≡ joined_parts self }
+        // What was seen of it, by what is seen of them.
+        ensures seen { IsSeenBy (D.seen result.0) (option_map D.seen result.1)
+            (joined_seen D.seen self) }
     {
         match self {
             JoinedDisk::Plain(disk) => (disk, None),
