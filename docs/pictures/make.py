@@ -208,7 +208,7 @@ SAYS = {
     'block_device': 'disks, streams', 'hash_chains': 'chains', 'swap_slots': 'least free', 'flat_model': 'what it means',
     'flat_state': 'kept plainly', 'vnode_files': 'extents', 'vm_types': 'calls, replies', 'zero_objects': 'by number',
     'disk_marks': 'what blocks have', 'mark_laws': 'true marks', 'state_marks': "a state's marks",
-    'volume_files': 'mounted files', 'command_line': 'words', 'vm_run': 'one run', 'joined_disk': 'two as one',
+    'volume_files': 'mounted files', 'command_line': 'words', 'vm_run': 'one run', 'joined_disk': 'two as one', 'volume_disks': 'one or two',
 }
 WIDE, HIGH, GAP, STEP = 116, 46, 12, 88
 # of the crates that sunvm's line names these are for its tests alone

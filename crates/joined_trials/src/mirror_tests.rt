@@ -29,6 +29,18 @@ const IN_TURNS: [(Act, Told); 13] = [
     (Read(0), Got(14, 14)),
 ];
 
+/// Told whichever single call of either disk fails. Without a failure the first disk is called eight times, and the second four.
+const WHOLE: [(Act, Told); 8] = [
+    (Write(0, 10), Put),
+    (Write(1, 11), Put),
+    (Read(0), Got(10, 10)),
+    (Write(0, 12), Put),
+    (Read(0), Got(12, 12)),
+    (Read(1), Got(11, 11)),
+    (Write(1, 13), Put),
+    (Read(1), Got(13, 13)),
+];
+
 /// What is seen of the disks of a mirror after the acts, and how many faults and calls it counted.
 fn made_on_a_mirror(
     alloc: Global,
@@ -58,5 +70,20 @@ fn a_mirror_goes_on_while_a_disk_has_the_block(rt: HostRuntime) -> Result<(), Fa
     assert_eq!(rt; a, ([(14, 14), (0, 0)], 6, 5, 4));
     assert_eq!(rt; b, ([(14, 14), (0, 0)], 3, 5, 3));
     assert_eq!(rt; (faults, calls), (7, 19));
+    Ok(())
+}
+
+#[test]
+fn one_call_that_fails_is_not_told(rt: HostRuntime) -> Result<(), Fail> {
+    let (_, _, faults, calls) = made_on_a_mirror(rt.alloc(), &[], &[], &WHOLE)?;
+    assert_eq!(rt; (faults, calls), (0, 12));
+    for call in 1..=8 {
+        let (a, b, _, _) = made_on_a_mirror(rt.alloc(), &[call], &[], &WHOLE)?;
+        assert_eq!(rt; (a.3, b.3), (1, 0));
+    }
+    for call in 1..=4 {
+        let (a, b, _, _) = made_on_a_mirror(rt.alloc(), &[], &[call], &WHOLE)?;
+        assert_eq!(rt; (a.3, b.3), (0, 1));
+    }
     Ok(())
 }
