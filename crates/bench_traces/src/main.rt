@@ -1,0 +1,109 @@
+//! Checks the trace on standard input, and prints what it is: the instructions of a run tell what that costs.
+//!
+//! With the argument `read` it reads the lines alone, and with `step` it makes each entry a step of flat memory too; then it
+//! prints how many entries there are.
+#![tactic(auto)]
+
+ghost use Rattle.trace_text.specs.EntryForm.{IsTracedEntry};
+
+use flat_model::Entry;
+use flat_state::FlatState;
+use std::alloc::{AllocError, Global};
+use std::io::Read;
+use std::{env, io};
+use trace_check::{MOST_TRACE_BYTES, Verdict, check, flat_opened};
+use trace_text::{cut_line, entry_of_line, read_opening};
+
+/// Flat memory takes an entry, where it is to.
+fn take(flat: &mut FlatState, entry: &Entry, steps: bool) -> Result<bool, AllocError>
+    requires { IsTracedEntry entry.now }
+{
+    if steps {
+        flat.step(entry)?;
+    }
+    Ok(true)
+}
+
+/// Reads a line; whether it tells an entry.
+fn take_line(
+    alloc: Global,
+    flat: &mut FlatState,
+    line: &[u8],
+    steps: bool,
+) -> Result<bool, AllocError> {
+    match entry_of_line(alloc, line)? {
+        Some(
+            Entry {
+                process,
+                call,
+                reply,
+                cleared,
+            },
+        ) => {
+            let entry = Entry {
+                process,
+                call,
+                reply,
+                cleared,
+            };
+            take(flat, &entry, steps)
+        }
+        None => Ok(false),
+    }
+}
+
+/// How many entries a text tells up to the first line that tells none.
+fn entries_told(
+    alloc: Global,
+    flat: &mut FlatState,
+    text: &[u8],
+    steps: bool,
+) -> Result<u64, AllocError> {
+    let mut count = 0;
+    let mut left = text;
+    for _ in 0..text.len() {
+        let (line, rest) = cut_line(left);
+        if !take_line(alloc, flat, line, steps)? {
+            return Ok(count);
+        }
+        count += 1;
+        left = rest;
+    }
+    Ok(count)
+}
+
+/// How many entries stand behind the lines of the opening part.
+fn entries_of(alloc: Global, text: &[u8], steps: bool) -> Result<u64, AllocError> {
+    match read_opening(alloc, text)? {
+        Ok(opening) => {
+            let mut flat = flat_opened(alloc, &opening)?;
+            entries_told(alloc, &mut flat, &text[opening.length..], steps)
+        }
+        Err(_) => Ok(0),
+    }
+}
+
+fn is_word(word: &Option<String>, text: &str) -> bool {
+    match word {
+        Some(word) => word.as_str() == text,
+        None => false,
+    }
+}
+
+fn main(rt: HostRuntime) -> io::Result<()> {
+    let word = env::args(&rt)?.nth(1);
+    let mut text = Vec::new(rt.alloc());
+    rt.reader().read_to_end(&mut text)?;
+    if text.len() > MOST_TRACE_BYTES {
+        return println!(rt; "trace: long");
+    }
+    let steps = is_word(&word, "step");
+    if steps || is_word(&word, "read") {
+        return println!(rt; "{}", entries_of(rt.alloc(), &text, steps)?);
+    }
+    match check(rt.alloc(), &text)? {
+        Ok(Verdict::Legal(count)) => println!(rt; "trace: legal {count}"),
+        Ok(Verdict::First(at)) => println!(rt; "trace: entry {at}"),
+        Err(fault) => println!(rt; "trace: line {}", fault.line),
+    }
+}

@@ -1,0 +1,5 @@
+pub mod Seen
+pub mod Judged
+pub mod Checked
+pub mod Openings
+pub mod Meanings

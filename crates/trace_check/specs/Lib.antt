@@ -1,0 +1,4 @@
+pub mod Verdicts
+pub mod Checks
+pub mod Judging
+pub mod Opened
