@@ -15,6 +15,7 @@ use Rattle.clap.specs.Simple.{App, is_simple, matches_of}
 use Rattle.clap.specs.Takes.{takes}
 use Rattle.clap.specs.Walk.{Row, Rule, Text, rows_of, rule_of}
 use Rattle.clap.specs.declared.builder.arg.Arg.{Arg}
+use Rattle.clap.specs.declared.builder.action.ArgAction.{ArgAction}
 use Rattle.clap.specs.declared.builder.texts.Texts.TheVariants.{One}
 use Rattle.clap.specs.declared.builder.value_parser.ValueParser.{ValueParser}
 use Rattle.clap.specs.declared.error.kind.ErrorKind.{ErrorKind}
@@ -35,6 +36,14 @@ with_parser_is a b r q p is given converts rule =
 pub with_default_is : (a b : Arg) (r : Rule) (v : Bor Text) → b ≡ record a { default_vals = One v } → rule_of a ≡ r
     → rule_of b ≡ record r { defaults = v.now ∷ [] }
 with_default_is a b r v is rule = ap rule_of is ∙ ap (λ (s : Rule). record s { defaults = v.now ∷ [] }) rule
+
+-- an argument with a long name
+pub with_long_is : (a b : Arg) (r : Rule) (s : Bor Text) → b ≡ record a { long = Some s } → rule_of a ≡ r → rule_of b ≡ record r { long = Some s.now }
+with_long_is a b r s is rule = ap rule_of is ∙ ap (λ (t : Rule). record t { long = Some s.now }) rule
+
+-- an argument with an action
+pub with_action_is : (a b : Arg) (r : Rule) (act : ArgAction) → b ≡ record a { action = Some act } → rule_of a ≡ r → rule_of b ≡ record r { action = Some act }
+with_action_is a b r act is rule = ap rule_of is ∙ ap (λ (s : Rule). record s { action = Some act }) rule
 
 -- clap tells all of the command
 pub is_told : is_simple_and_free sunvm_command ≡ true
@@ -120,9 +129,9 @@ pub flag_found : (E : Type 0) (f : Found) (id : Text) (r : Option Bool)
     → unwrap_or r false ≡ flag_of_word id (rows_of f)
 flag_found E f id r none value = flag_read E (one_text f id) r none value ∙ ap (λ o. option_map_or is_true_text o false) (one_text-rows f id)
 
-pub same_options : (t u : Bool) (p q : ℕ) (m n : Option ℕ) → t ≡ u → p ≡ q → m ≡ n
-    → ◌≡◌ {A = Options} (record { trace = t; pageout = p; make = m }) (record { trace = u; pageout = q; make = n })
-same_options t u p q m n a b c = rw (a, b, c) refl
+pub same_options : (t u : Bool) (p q : ℕ) (m n : Option ℕ) (k l : Bool) → t ≡ u → p ≡ q → m ≡ n → k ≡ l
+    → ◌≡◌ {A = Options} (record { trace = t; pageout = p; make = m; check = k }) (record { trace = u; pageout = q; make = n; check = l })
+same_options t u p q m n k l a b c d = rw (a, b, c, d) refl
 
 -- ---- the parse
 

@@ -29,10 +29,14 @@ pageout_rule = record (new_rule (codes "pageout")) {
 abbrev pub make_rule : Rule
 make_rule = record (new_rule (codes "make")) { long = Some (codes "make"); parser = Some (vp.Signed (pos 0) (pos 4294967295)) }
 
--- The command line: `[--trace] [--pageout N] [--make N]`. The words are those behind the program's name.
+-- `--check`
+abbrev pub check_rule : Rule
+check_rule = record (new_rule (codes "check")) { long = Some (codes "check"); action = Some SetTrue }
+
+-- The command line: `[--trace] [--pageout N] [--make N] [--check]`. The words are those behind the program's name.
 unfoldable pub sunvm_command : App
 sunvm_command =
-    with_rule (with_rule (with_rule (on_top (λ s. record s { no_binary_name = true }) (new_app (codes "sunvm"))) trace_rule) pageout_rule) make_rule
+    with_rule (with_rule (with_rule (with_rule (on_top (λ s. record s { no_binary_name = true }) (new_app (codes "sunvm"))) trace_rule) pageout_rule) make_rule) check_rule
 
 -- The number of up to 32 bits that a text writes in decimal digits, where it does; a plus may stand first.
 unfoldable pub number_in_text : List ℕ → Option ℕ
@@ -52,6 +56,7 @@ options_in rows = record {
   trace = flag_of_word (codes "trace") rows;
   pageout = unwrap_or (number_of_word (codes "pageout") rows) 0;
   make = number_of_word (codes "make") rows;
+  check = flag_of_word (codes "check") rows;
 }
 
 abbrev pub unless_faulty : Kinds → Options → Option Options

@@ -16,6 +16,8 @@ pub struct Options {
     pub pageout: u32,
     /// The number of the generated script that is run in place of the input.
     pub make: Option<u32>,
+    /// Whether the input is a trace that is checked; the other options then have no effect.
+    pub check: bool,
 }
 
 // The command line.
@@ -32,8 +34,11 @@ fn command<'a>(alloc: Global) -> Result<Command<'a>, AllocError>
     let make = Arg::new(alloc, "make")
         .long("make")
         .value_parser(value_parser!(u32));
+    let check = Arg::new(alloc, "check")
+        .long("check")
+        .action(ArgAction::SetTrue);
     let named = Command::new(alloc, "sunvm").no_binary_name(true);
-    named.arg(trace)?.arg(pageout)?.arg(make)
+    named.arg(trace)?.arg(pageout)?.arg(make)?.arg(check)
 }
 
 // What was found in the words.
@@ -44,6 +49,7 @@ fn options_in(matches: &ArgMatches<'_>) -> Options
         trace: matches.get_one::<bool>("trace").unwrap_or(false),
         pageout: matches.get_one::<u32>("pageout").unwrap_or(0),
         make: matches.get_one::<u32>("make"),
+        check: matches.get_one::<bool>("check").unwrap_or(false),
     }
 }
 

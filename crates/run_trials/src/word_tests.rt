@@ -9,12 +9,22 @@ fn options(trace: bool, pageout: u32, make: Option<u32>) -> Option<Options> {
         trace,
         pageout,
         make,
+        check: false,
+    })
+}
+
+fn checking(trace: bool, pageout: u32, make: Option<u32>) -> Option<Options> {
+    Some(Options {
+        trace,
+        pageout,
+        make,
+        check: true,
     })
 }
 
 #[test]
 fn words_are_taken_or_not(rt: HostRuntime) -> Result<(), Fail> {
-    let cases: [(&str, Option<Options>); 16] = [
+    let cases: [(&str, Option<Options>); 19] = [
         (NO_WORDS, options(false, 0, None)),
         ("--trace", options(true, 0, None)),
         ("--pageout\n1000000", options(false, 1_000_000, None)),
@@ -23,6 +33,9 @@ fn words_are_taken_or_not(rt: HostRuntime) -> Result<(), Fail> {
             options(true, 0, Some(4_294_967_295)),
         ),
         ("--make\n0\n--pageout=007", options(false, 7, Some(0))),
+        ("--check", checking(false, 0, None)),
+        ("--make=3\n--check\n--trace", checking(true, 0, Some(3))),
+        ("--check=1", None),
         ("--pageout\n1000001", None),
         ("--make\n4294967296", None),
         ("--make=-1", None),
@@ -92,5 +105,69 @@ fn what_is_asked_is_read_or_a_line_says_why_not(rt: HostRuntime) -> Result<(), F
         assert_eq!(rt; left.status, status, "{lines:?}");
         assert_eq!(rt; left.text.as_slice(), text);
     }
+    Ok(())
+}
+
+const SMALL: &[u8] =
+    b"trace swap 64\ndisk 0 8\nroot 1\nfile 0 a rw 0 5 1+2\n00000000 68656c6c6f\nentries 4\n\
+    1 0000000000000000 map 0x00002000 4096 rw shared file 0 0 = 0x00002000\n\
+    1 0000000000000000 load 0x00002001 1 = 0x65\n\
+    1 0000000000000000 store 0x00002000 1 0x4a = ok\n\
+    1 0000000000000000 exit = ok\n";
+
+const WRONG_LOAD: &[u8] =
+    b"trace swap 64\ndisk 0 8\nroot 1\nfile 0 a rw 0 5 1+2\n00000000 68656c6c6f\nentries 4\n\
+    1 0000000000000000 map 0x00002000 4096 rw shared file 0 0 = 0x00002000\n\
+    1 0000000000000000 load 0x00002001 1 = 0x66\n\
+    1 0000000000000000 store 0x00002000 1 0x4a = ok\n\
+    1 0000000000000000 exit = ok\n";
+
+const CUT_OFF: &[u8] =
+    b"trace swap 64\ndisk 0 8\nroot 1\nfile 0 a rw 0 5 1+2\n00000000 68656c6c6f\nentries 4\n\
+    1 0000000000000000 map 0x00002000 4096 rw shared file 0 0 = 0x00002000\n\
+    1 0000000000000000 load 0x00002001 1 = 0x65\n\
+    1 0000000000000000 store 0x00002000 1 0x4a = ok\n";
+
+#[test]
+fn a_trace_is_checked_in_place_of_a_script(rt: HostRuntime) -> Result<(), Fail> {
+    let cases: [(&str, &[u8], u64, u8, &[u8]); 6] = [
+        ("--check", SMALL, 0, 0, b"trace: legal 4\n"),
+        (
+            "--make=1\n--check\n--trace",
+            SMALL,
+            0,
+            0,
+            b"trace: legal 4\n",
+        ),
+        ("--check", WRONG_LOAD, 0, 9, b"trace: entry 1\n"),
+        ("--check", CUT_OFF, 0, 3, b"trace: line 10\n"),
+        ("--check", b"", 0, 3, b"trace: line 1\n"),
+        ("--check", SMALL, 1, 5, b"script: read fault\n"),
+    ];
+    for (lines, trace, fail_at, status, text) in cases {
+        let fails = Fails {
+            source: fail_at,
+            ..NEVER
+        };
+        let left = run_trial(&rt, rt.alloc(), lines, trace, &fails)?;
+        assert_eq!(rt; left.status, status, "{lines:?}");
+        assert_eq!(rt; left.text.as_slice(), text);
+    }
+    Ok(())
+}
+
+#[test]
+fn a_verdict_that_is_not_written_is_status_6(rt: HostRuntime) -> Result<(), Fail> {
+    let fails = Fails { sink: 2, ..NEVER };
+    let legal = run_trial(&rt, rt.alloc(), "--check", SMALL, &fails)?;
+    assert_eq!(rt;
+        (legal.status, legal.text.as_slice()),
+        (6, b"trace".as_slice())
+    );
+    let faulty = run_trial(&rt, rt.alloc(), "--check", CUT_OFF, &fails)?;
+    assert_eq!(rt;
+        (faulty.status, faulty.text.as_slice()),
+        (3, b"trace".as_slice())
+    );
     Ok(())
 }

@@ -1,6 +1,9 @@
 -- A run of words that are taken, in which no outside failed.
 use Rattle.std.proofs.Common.{◌≡◌, ℕ, refl, sym, ap, ◌∙◌, subst, inl, inr}
-use Rattle.std.specs.Prelude.{IfSome, IsSome, List, MatchOption, Option, option_map, Some, None, Result, Ok, Err}
+use Rattle.std.specs.Prelude.{Bool, IfSome, IsSome, List, MatchOption, Option, option_map, Some, None, Result, Ok, Err, if◌then◌else◌}
+use Rattle.vm_run.specs.declared.ending.TraceAnswer.{TraceAnswer}
+use Rattle.vm_run.specs.declared.ending.TraceEnd.TheVariants as ends
+use Rattle.vm_run.specs.TraceChecks.{WasChecked}
 use Rattle.std.proofs.lemmas.Option.{none-some, same_Some}
 use Rattle.volume_files.specs.block_device.Counts.{HasRisen}
 use Rattle.volume_files.specs.block_device.OpenSeen.{OpenFaultSeen}
@@ -23,7 +26,17 @@ told-text (Some told) F q r is h = sym h.2 ∙ ap F (sym h.1) ∙ same_Some (F t
 -- what was asked is the one thing that the words and the text ask for, where the text is told
 one-asked : (words : Option Options) (rest : Option (List ℕ)) (q r : Result Asked Ending) → request_of_options words rest ≡ Some q → Asks words rest r → r ≡ q
 one-asked None rest q r is h = h ∙ same_Some (Err ending.Usage) q is
-one-asked (Some o) rest q r is h = told-text (script_told o.make rest) (λ text. by_script o (plan_of text)) q r is h
+one-asked (Some o) rest q r is h =
+    let said : option_map (λ text. by_script o (plan_of text)) (script_told o.make rest) ≡ Some q =
+    sym (ap (λ (b : Bool). if b then None else option_map (λ text. by_script o (plan_of text)) (script_told o.make rest)) h.0) ∙ is in
+    told-text (script_told o.make rest) (λ text. by_script o (plan_of text)) q r said (h.1, h.2, h.3)
+
+-- no run is asked for where a check is
+not-checked : (g : Given) (what : Asked) (a : TraceAnswer) → run_request g ≡ Some (Ok what) → WasChecked g a → ⊥
+not-checked g what a is w =
+    let none : run_request g ≡ None = ap (λ (o : Option Options). request_of_options o g.rest) w.words
+    ∙ ap (λ (b : Bool). if b then None else option_map (λ text. by_script w.options (plan_of text)) (script_told w.options.make g.rest)) w.check in
+    none-some (Ok what) (sym none ∙ is)
 
 not-stopped : (g : Given) (what : Asked) (h : Ending) → run_request g ≡ Some (Ok what) → WasAsked g (Err h) → ⊥
 not-stopped g what h is p = let b : ◌≡◌ {A = Result Asked Ending} (Err h) (Ok what) = one-asked (options_of g.words) g.rest (Ok what) (Err h) is p in cc
@@ -61,6 +74,8 @@ module _ (g : Given) (o : Outside) (e : End) where
   by-case (ending.Closing x) s f c what is ns nk nr = inr (inr (inl (subst IsDiskCounted (sym f) tt)))
   by-case (ending.Showing x) s f c what is ns nk nr = inr (inr (inl (subst IsDiskCounted (sym f) tt)))
   by-case ending.Memory s f c what is ns nk nr = inr (inl s)
+  by-case (ending.Checked (ends.Told a)) s f c what is ns nk nr = absurd (not-checked g what a is c.answer)
+  by-case (ending.Checked ends.Sink) s f c what is ns nk nr = absurd (not-checked g what c.0 is c.1.answer)
 
   pub completes : RunEnds g o e → IsComplete g o e
   completes r = elim r.case [

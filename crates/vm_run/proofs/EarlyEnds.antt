@@ -9,6 +9,9 @@ use Rattle.vm_core.specs.Finish.{HistorySeen}
 use Rattle.vm_run.specs.declared.ending.Ending.{Ending}
 use Rattle.vm_run.specs.declared.ending.Ending.TheVariants as ending
 use Rattle.vm_run.specs.declared.ending.Stop.{Stop}
+use Rattle.vm_run.specs.declared.ending.TraceAnswer.{TraceAnswer}
+use Rattle.vm_run.specs.declared.ending.TraceEnd.TheVariants as ends
+use Rattle.vm_run.specs.TraceChecks.{TellsAnswer, WasChecked, WroteAnswer}
 use Rattle.volume_files.specs.declared.stops.HandedBack.{HandedBack}
 use Rattle.volume_files.specs.declared.stops.OpenStop.{OpenStop}
 use Rattle.volume_files.specs.declared.stops.OpenStop.TheVariants as halt
@@ -17,7 +20,7 @@ use Rattle.vm_run.specs.declared.outcome.RunFault.{RunFault}
 use Rattle.vm_run.specs.Asked.{Given, Asked, WasAsked}
 use Rattle.volume_files.specs.Attached.{HandsStopped, StopCause, StopsEarly}
 use Rattle.vm_run.specs.Course.{AskStops}
-use Rattle.vm_run.specs.Ended.{stop_end}
+use Rattle.vm_run.specs.Ended.{End, stop_end}
 use Rattle.volume_files.specs.Handed.{AreUncounted, HasOpeningCause, IsCountedBy}
 use Rattle.vm_run.specs.Run.{CaseOf, EndsBare, Outside, wrote_before}
 use Rattle.volume_files.specs.Texts.{Wrote}
@@ -59,6 +62,7 @@ module _ (st : ℕ) (ft : Option RunFault) (g : Given) (o : Outside) (nothing : 
   asked-stop H disks swap (ending.Opening f) entries counts none last a = absurd a
   asked-stop H disks swap (ending.Closing f) entries counts none last a = absurd a
   asked-stop H disks swap (ending.Showing f) entries counts none last a = absurd a
+  asked-stop H disks swap (ending.Checked t) entries counts none last a = absurd a
 
   module _ (what : Asked) (asked : WasAsked g (Ok what)) (old new : ℕ) (risen : HasRisen old new → HasRisen o.rack_old o.rack_new) where
     same-cause : (disks : List DiskSeen) (swap : Option DiskSeen) (f : OpenFaultSeen) → HasOpeningCause what.plan disks swap old new f
@@ -133,6 +137,52 @@ pub stopped-asking : (st : ℕ) (ft : Option RunFault) (g : Given) (o : Outside)
 stopped-asking st ft g o k before after seen s how is entries counts none last a =
     asked-stop st ft g o (subst (λ (x : SinkSeen). Wrote o.sink_old x []) (before ∙ sym after) (wrote_nothing o.sink_old)) s.history (map seen s.disks.items) (option_map seen s.swap)
     s.ending entries counts (ap (map seen) none) (ap (option_map seen) last) (subst (AskStops g o.source_old o.source_new) (sym is) a)
+
+-- a trace was answered
+module _ (st : ℕ) (ft : Option RunFault) (g : Given) (o : Outside) (H : HistorySeen) (disks : List DiskSeen) (swap : Option DiskSeen)
+    (entries : H.entries ≡ []) (counts : H.faults ≡ []) (none : disks ≡ []) (last : swap ≡ None) where
+  abbrev bare : End
+  bare = record { status = st; fault = ft; history = H; disks = disks; swap = swap }
+
+  checked-stop : (a : TraceAnswer) (how : Ending) → WasChecked g a → TellsAnswer a o.sink_old o.sink_new how → CaseOf g o (wrote_before o) bare how
+  checked-stop a (ending.Checked (ends.Told b)) w t = record {
+    answer = subst (λ (x : TraceAnswer). WasChecked g x) (sym t.0) w;
+    none = record { no_disk = none; no_swap = last };
+    history = record { entries = entries; counts = counts };
+    wrote = subst (λ (x : TraceAnswer). WroteAnswer o.sink_old o.sink_new x) (sym t.0) t.1;
+  }
+  checked-stop a (ending.Checked ends.Sink) w t = (
+    a,
+    record {
+      answer = w;
+      none = record { no_disk = none; no_swap = last };
+      history = record { entries = entries; counts = counts };
+      wrote = t;
+    },
+  )
+  checked-stop a ending.Memory w t = inl (record {
+    none = record { no_disk = none; no_swap = last };
+    history = record { entries = entries; counts = counts };
+    wrote = t;
+  })
+  checked-stop a ending.Whole w t = absurd t
+  checked-stop a ending.Usage w t = absurd t
+  checked-stop a (ending.NoScript f) w t = absurd t
+  checked-stop a ending.Later w t = absurd t
+  checked-stop a (ending.Refused r) w t = absurd t
+  checked-stop a ending.NotRead w t = absurd t
+  checked-stop a ending.OpeningSink w t = absurd t
+  checked-stop a ending.Sink w t = absurd t
+  checked-stop a (ending.Opening f) w t = absurd t
+  checked-stop a (ending.Closing f) w t = absurd t
+  checked-stop a (ending.Showing f) w t = absurd t
+
+pub stopped-checking : (st : ℕ) (ft : Option RunFault) (g : Given) (o : Outside) (a : TraceAnswer) (k0 k1 : SinkSeen) → o.sink_old ≡ k0 → o.sink_new ≡ k1 → WasChecked g a
+    → {D : Type 0} (seen : D → DiskSeen) (s : Stop D) (how : Ending) → s.ending ≡ how → s.history.entries ≡ [] → s.history.faults ≡ [] → s.disks.items ≡ [] → s.swap ≡ None
+    → TellsAnswer a k0 k1 how → CaseOf g o (wrote_before o) (record (stop_end seen s) { status = st; fault = ft }) s.ending
+stopped-checking st ft g o a k0 k1 before after w seen s how is entries counts none last t =
+    let told : TellsAnswer a o.sink_old o.sink_new s.ending = rw (is, before, after) t in
+    checked-stop st ft g o s.history (map seen s.disks.items) (option_map seen s.swap) entries counts (ap (map seen) none) (ap (option_map seen) last) a s.ending w told
 
 -- counts that rose rose for the outside
 pub risen-outside : (old new : ℕ) (o : Outside) → o.rack_old ≡ old → o.rack_new ≡ new → HasRisen old new → HasRisen o.rack_old o.rack_new

@@ -38,6 +38,7 @@ module _ (o : Options) (plan : PlanSeen) (H : List Entry) (infos : List FileInfo
   middle-stopped bytes are (ending.Opening f) m = absurd m
   middle-stopped bytes are (ending.Closing f) m = absurd m
   middle-stopped bytes are (ending.Showing f) m = absurd m
+  middle-stopped bytes are (ending.Checked t) m = absurd m
 
 -- a generated script shows no file
 pub without-files : (make : Option ℕ) (k0 k1 : SinkSeen) (text : List ℕ) (infos : List FileInfo) (bytes : ℕ → List ℕ) → is_some make ≡ true → Wrote k0 k1 text

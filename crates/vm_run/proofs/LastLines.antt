@@ -11,7 +11,11 @@ use Rattle.vm_run.specs.declared.ending.Ending.TheVariants as ending
 use Rattle.volume_files.specs.declared.showing.Heading.TheVariants.{Report}
 use Rattle.vm_run.specs.Asked.{Given}
 use Rattle.vm_run.specs.declared.outcome.RunFault.{RunFault}
-use Rattle.vm_run.specs.Ending.{fault_of, last_line_of, status_of}
+use Rattle.vm_run.specs.declared.ending.TraceAnswer.{TraceAnswer}
+use Rattle.vm_run.specs.declared.ending.TraceAnswer.TheVariants as answer
+use Rattle.vm_run.specs.declared.ending.TraceEnd.TheVariants as ends
+use Rattle.vm_run.specs.TraceChecks.{StopsInAnswer, WroteAnswer}
+use Rattle.vm_run.specs.Ending.{answer_text, fault_of, last_line_of, status_of}
 use Rattle.vm_run.specs.Ended.{End}
 use Rattle.volume_files.specs.Handed.{handed_count}
 use Rattle.vm_run.specs.Reading.{IsConcluded}
@@ -46,6 +50,18 @@ module _ (g : Given) (s0 s1 r0 r1 n0 n1 : ℕ) (exact : Bool) (k0 k1 k2 : SinkSe
 
   bare-line : (how : Ending) → EndsBare (wrote_before (outside k1)) how e → WroteOn k1 k2 [] (last_line_of how) → EndsBare (wrote_all (outside k2)) how e
   bare-line how b w = record { none = b.none; history = b.history; wrote = on_behind k0 k1 k2 [] (last_line_of how) first b.wrote w }
+
+  -- an answer to a trace, behind which nothing was printed
+  answer-still : (a : TraceAnswer) → WroteAnswer k0 k1 a → k2.written ≡ k1.written → WroteAnswer k0 k2 a
+  answer-still (answer.Verdict v) wrote same = still_wrote k0 k1 k2 (answer_text (answer.Verdict v)) wrote same
+  answer-still (answer.Fault f) on same = still-on k0 k1 k2 [] (answer_text (answer.Fault f)) on later same
+  answer-still answer.Long on same = still-on k0 k1 k2 [] (answer_text answer.Long) on later same
+
+  stops-still : (a : TraceAnswer) → StopsInAnswer k0 k1 a → k2.written ≡ k1.written → StopsInAnswer k0 k2 a
+  stops-still (answer.Verdict v) stops same =
+      (risen-after k0.faults k1.faults k2.faults stops.0 later, still_part k0 k1 k2 [] (answer_text (answer.Verdict v)) stops.1 same)
+  stops-still (answer.Fault f) stops same = absurd stops
+  stops-still answer.Long stops same = absurd stops
 
   -- the last line was printed, as far as the sink took it
   line-told : (how : Ending) → CaseOf g (outside k1) (wrote_before (outside k1)) e how → WroteOn k1 k2 [] (last_line_of how) → CaseOf g (outside k2) (wrote_all (outside k2)) e how
@@ -147,6 +163,9 @@ module _ (g : Given) (s0 s1 r0 r1 n0 n1 : ℕ) (exact : Bool) (k0 k1 k2 : SinkSe
       | inr shown ↦ inr (shown.0, still_front k0 k1 k2 (opening_of c.course e) (report_of c.course e) shown.1 (silent k1 k2 w))
     ];
   })))
+  line-told (ending.Checked (ends.Told a)) c w = record { answer = c.answer; none = c.none; history = c.history; wrote = answer-still a c.wrote (silent k1 k2 w) }
+  line-told (ending.Checked ends.Sink) c w =
+      (c.0, record { answer = c.1.answer; none = c.1.none; history = c.1.history; wrote = stops-still c.0 c.1.wrote (silent k1 k2 w) })
 
   -- the run's end, whichever it is
   pub last-line : (was how : Ending) → CaseOf g (outside k1) (wrote_before (outside k1)) e was → (was ≡ ending.Memory → NoneFailed (outside k1)) → IsConcluded was k1 k2 how

@@ -30,3 +30,4 @@ pub mod DisksTell
 pub mod Asking
 pub mod PlayablePlans
 pub mod StartedFiles
+pub mod TracesRead

@@ -319,6 +319,7 @@ module _ (st : ℕ) (ft : Option RunFault) (g : Given) (o : Outside) (what : Ask
   traced-stop ending.Sink none t = absurd t
   traced-stop (ending.Closing f) none t = absurd t
   traced-stop (ending.Showing f) none t = absurd t
+  traced-stop (ending.Checked x) none t = absurd t
 
   -- memory lacked behind the whole opening part
   pub lacks-behind : (IsTrue o.exact → AreUncounted (bare_disks new) a.swap) → Wrote o.sink_old o.sink_new (opening_part what files (bare_disks new) bytes) → CaseOf g o (wrote_before o) stopped ending.Memory

@@ -28,6 +28,7 @@ said-anyway T (Err ending.Sink) p = p
 said-anyway T (Err (ending.Opening x)) p = p
 said-anyway T (Err (ending.Closing x)) p = p
 said-anyway T (Err (ending.Showing x)) p = p
+said-anyway T (Err (ending.Checked x)) p = p
 said-anyway T (Err ending.Memory) p = p
 
 -- where memory lacked

@@ -1,5 +1,5 @@
 -- What a run is asked to do, by its words and by the script or the number of a generated one. Public clauses cite this.
-use Rattle.std.specs.Prelude.{ℕ, not, nat_lt, ◌||◌, Bool, true, false, List, length, ◌≡◌, Option, Some, None, IfSome, option_map, Result, Ok, Err, if◌then◌else◌}
+use Rattle.std.specs.Prelude.{ℕ, not, nat_lt, ◌||◌, Bool, true, false, List, length, ◌≡◌, ◌⊎◌, Option, Some, None, IfSome, option_map, Result, Ok, Err, if◌then◌else◌}
 use Rattle.std.specs.List.{list_all, list_any}
 use Rattle.volume_files.specs.vm_types.declared.call.Call.{Call}
 use Rattle.volume_files.specs.vm_types.declared.call.Call.TheVariants as call
@@ -77,25 +77,30 @@ abbrev pub script_told : Option ℕ → Option (List ℕ) → Option (List ℕ)
 script_told (Some number) rest = Some (generated_text number)
 script_told None rest = rest
 
--- WHAT WAS ASKED, or why nothing can be run: words that aren't taken; else what some text says, which is the script's where that is told.
+-- WHAT WAS ASKED, or why nothing can be run: words that aren't taken; else, where they ask for no check, what some text says, which is the script's where
+-- that is told.
 abbrev pub Asks : Option Options → Option (List ℕ) → Result Asked Ending → Type 0
 Asks None rest r = r ≡ Err ending.Usage
-Asks (Some o) rest r = (text : List ℕ) × IfSome (script_told o.make rest) (λ told. told ≡ text) × (by_script o (plan_of text) ≡ r)
+Asks (Some o) rest r = (o.check ≡ false) × (text : List ℕ) × IfSome (script_told o.make rest) (λ told. told ≡ text) × (by_script o (plan_of text) ≡ r)
 
 abbrev pub WasAsked : Given → Result Asked Ending → Type 0
 WasAsked g r = Asks (options_of g.words) g.rest r
 
--- The same as a function, where the text is told.
+-- The same as a function, where the text is told; none where a check is asked for.
 abbrev pub request_of_options : Option Options → Option (List ℕ) → Option (Result Asked Ending)
 request_of_options None rest = Some (Err ending.Usage)
-request_of_options (Some o) rest = option_map (λ text. by_script o (plan_of text)) (script_told o.make rest)
+request_of_options (Some o) rest = if o.check then None else option_map (λ text. by_script o (plan_of text)) (script_told o.make rest)
 
 abbrev pub run_request : Given → Option (Result Asked Ending)
 run_request g = request_of_options (options_of g.words) g.rest
 
--- The source failed, from which the script was to be read: its count of faults rose, and the words name no generated script.
+-- The source is read: the words ask for a check, or name no generated script.
+abbrev pub ReadsSource : Options → Type 0
+ReadsSource o = (o.check ≡ true) ⊎ (o.make ≡ None)
+
+-- The source failed, which was to be read: its count of faults rose.
 pub record FailsToRead (g : Given) (old new : ℕ) : Type 0 where
   pub risen : HasRisen old new
   pub options : Options
   pub words : options_of g.words ≡ Some options
-  pub source : options.make ≡ None
+  pub source : ReadsSource options

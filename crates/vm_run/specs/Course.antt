@@ -14,6 +14,9 @@ use Rattle.volume_files.specs.vm_script.Rules.{broken_rule}
 use Rattle.vm_run.specs.declared.ending.Ending.{Ending}
 use Rattle.vm_run.specs.declared.ending.Ending.TheVariants as ending
 use Rattle.vm_run.specs.declared.ending.Stop.{Stop}
+use Rattle.vm_run.specs.declared.reading.Request.{Request}
+use Rattle.vm_run.specs.declared.reading.Request.TheVariants as request
+use Rattle.vm_run.specs.TraceChecks.{WasChecked}
 use Rattle.command_line.specs.declared.options.Options.{Options}
 use Rattle.vm_run.specs.declared.outcome.RunFault.{RunFault}
 use Rattle.volume_files.specs.block_device.OpenSeen.{OpenFaultSeen}
@@ -66,9 +69,10 @@ AskStops g old new ending.NotRead = FailsToRead g old new
 AskStops g old new ending.Memory = Unit {0}
 AskStops g old new how = ⊥
 
--- WHAT WAS ASKED was read, from words and source; or why there is nothing to be run.
-abbrev pub AskEnds : Given → ℕ → ℕ → Result (Options × PlanSeen) Ending → Type 0
-AskEnds g old new (Ok read) = WasAsked g (Ok (record { options = read.0; plan = read.1 })) × IsReadPlan read.1
+-- WHAT WAS ASKED was read, from words and source, and a trace was answered; or why there is nothing to be run.
+abbrev pub AskEnds : Given → ℕ → ℕ → Result Request Ending → Type 0
+AskEnds g old new (Ok (request.Run options plan)) = WasAsked g (Ok (record { options = options; plan = plan })) × IsReadPlan plan
+AskEnds g old new (Ok (request.Check a)) = WasChecked g a
 AskEnds g old new (Err how) = AskStops g old new how
 
 -- What is said unless the sink or a disk failed: where a step was done, or memory lacked.

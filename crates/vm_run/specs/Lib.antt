@@ -1,5 +1,6 @@
 pub mod Ending
 pub mod Asked
+pub mod TraceChecks
 pub mod Run
 pub mod Played
 pub mod Course

@@ -7,6 +7,13 @@ use Rattle.volume_files.specs.vm_script.PlanSeen.{PlanSeen}
 use Rattle.volume_files.specs.vm_script.Plans.{plan_of}
 use Rattle.vm_run.specs.declared.ending.Ending.{Ending}
 use Rattle.vm_run.specs.declared.ending.Ending.TheVariants as ending
+use Rattle.vm_run.specs.declared.ending.TraceAnswer.{TraceAnswer}
+use Rattle.vm_run.specs.declared.ending.TraceAnswer.TheVariants as answer
+use Rattle.vm_run.specs.declared.ending.TraceEnd.{TraceEnd}
+use Rattle.vm_run.specs.declared.ending.TraceEnd.TheVariants as ends
+use Rattle.vm_run.specs.declared.reading.Request.{Request}
+use Rattle.vm_run.specs.declared.reading.Request.TheVariants as request
+use Rattle.vm_run.specs.TraceChecks.{AnswersSource}
 use Rattle.command_line.specs.declared.options.Options.{Options}
 use Rattle.vm_run.specs.Asked.{by_plan, script_told}
 use Rattle.vm_run.specs.Course.{IsReadPlan}
@@ -38,6 +45,17 @@ SourceStops old new ending.NotRead = HasRisen old new
 SourceStops old new ending.Memory = Unit {0}
 SourceStops old new how = ⊥
 
+-- How a check ends whose line the sink didn't take whole: a verdict has to be told, and a fault is told as far as that goes.
+abbrev pub untold_end : TraceAnswer → TraceEnd
+untold_end (answer.Verdict v) = ends.Sink
+untold_end (answer.Fault f) = ends.Told (answer.Fault f)
+untold_end answer.Long = ends.Told answer.Long
+
+-- The request is the answer to the source's trace.
+abbrev pub IsAnswer : Option (List ℕ) → Request → Type 0
+IsAnswer rest (request.Check a) = AnswersSource rest a
+IsAnswer rest (request.Run options plan) = ⊥
+
 -- Why no plan was read.
 abbrev pub ScriptStops : Option ℕ → Option (List ℕ) → ℕ → ℕ → Ending → Type 0
 ScriptStops make rest old new (ending.NoScript f) = SaysScript make rest (Err f)
@@ -46,8 +64,9 @@ ScriptStops make rest old new ending.Memory = Unit {0}
 ScriptStops make rest old new how = ⊥
 
 -- A plan that was read is taken, or not: it waits for later, or breaks a rule.
-abbrev pub TakesPlan : Options → PlanSeen → Result (Options × PlanSeen) Ending → Type 0
-TakesPlan o plan (Ok read) = (by_plan o plan ≡ Ok (record { options = read.0; plan = read.1 })) × IsReadPlan read.1
+abbrev pub TakesPlan : Options → PlanSeen → Result Request Ending → Type 0
+TakesPlan o plan (Ok (request.Run options read)) = (by_plan o plan ≡ Ok (record { options = options; plan = read })) × IsReadPlan read
+TakesPlan o plan (Ok (request.Check a)) = ⊥
 TakesPlan o plan (Err ending.Later) = by_plan o plan ≡ Err ending.Later
 TakesPlan o plan (Err (ending.Refused r)) = by_plan o plan ≡ Err (ending.Refused r)
 TakesPlan o plan (Err how) = ⊥

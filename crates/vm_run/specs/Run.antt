@@ -18,6 +18,9 @@ use Rattle.volume_files.specs.vm_script.Told.{Told, ToldFront}
 use Rattle.volume_files.specs.declared.stops.Refusal.{Refusal}
 use Rattle.vm_run.specs.declared.ending.Ending.{Ending}
 use Rattle.vm_run.specs.declared.ending.Ending.TheVariants as ending
+use Rattle.vm_run.specs.declared.ending.TraceAnswer.{TraceAnswer}
+use Rattle.vm_run.specs.declared.ending.TraceEnd.{TraceEnd}
+use Rattle.vm_run.specs.declared.ending.TraceEnd.TheVariants as ends
 use Rattle.vm_run.specs.declared.outcome.RunFault.{RunFault}
 use Rattle.vm_run.specs.declared.outcome.RunFault.TheVariants as fault
 use Rattle.volume_files.specs.declared.showing.Heading.TheVariants.{Report, Trace}
@@ -30,6 +33,7 @@ use Rattle.volume_files.specs.Handed.{HasOpeningCause, HasRefusalCause, StopsAtt
 use Rattle.volume_files.specs.Opened.{line_files_of, ComesTo, OpenedFile, opened_files, infos_of, names_of, numbered_plan, opening_flat}
 use Rattle.volume_files.specs.Texts.{Wrote, WroteAndFront, WroteAndPart, WroteFront, WroteOn, WrotePart, IsPageUnread, sections_before, trace_front}
 use Rattle.vm_run.specs.AskedTexts.{files_or_none, middle_text, trace_opening}
+use Rattle.vm_run.specs.TraceChecks.{WasChecked, WroteAnswer, StopsInAnswer}
 
 -- What the outside has seen of a run: the counts of faults of source and rack before and after it, how many disks the rack had attached, the sink, and
 -- whether the counts of the rack's disks rise by transfers that fail alone.
@@ -301,6 +305,17 @@ pub record LacksLate (g : Given) (o : Outside) (e : End) : Type 0 where
 abbrev pub Lacks : Given → Outside → End → Type 0
 Lacks g o e = LacksBare o e ⊎ LacksOpening g o e ⊎ LacksInTrace g o e ⊎ LacksLate g o e
 
+-- A TRACE WAS CHECKED in place of a script: nothing was attached, and the answer's line was written; or the sink failed in a verdict.
+pub record HasChecked (g : Given) (o : Outside) (a : TraceAnswer) (e : End) (P : SinkSeen → SinkSeen → TraceAnswer → Type 0) : Type 0 where
+  pub answer : WasChecked g a
+  pub none : HandsNone e.disks e.swap
+  pub history : HasNoHistory e
+  pub wrote : P o.sink_old o.sink_new a
+
+abbrev pub ChecksTrace : Given → Outside → End → TraceEnd → Type 0
+ChecksTrace g o e (ends.Told a) = HasChecked g o a e WroteAnswer
+ChecksTrace g o e ends.Sink = (a : TraceAnswer) × HasChecked g o a e StopsInAnswer
+
 abbrev pub CaseOf : Given → Outside → Writing → End → Ending → Type 0
 CaseOf g o W e ending.Whole = EndsWhole g o e
 CaseOf g o W e ending.Usage = WasAsked g (Err ending.Usage) × EndsBare W ending.Usage e
@@ -314,6 +329,7 @@ CaseOf g o W e (ending.Opening f) = FailsToOpen g o W f e
 CaseOf g o W e (ending.Closing f) = FailsToClose g o f e
 CaseOf g o W e (ending.Showing f) = FailsToShow g W f e
 CaseOf g o W e ending.Memory = Lacks g o e
+CaseOf g o W e (ending.Checked t) = ChecksTrace g o e t
 
 -- Source, rack and sink counted no fault.
 pub record NoneFailed (o : Outside) : Type 0 where

@@ -1,10 +1,31 @@
 //! The ways in which a run ends.
 ghost use Rattle.std.specs.Prelude.{◌≡◌, []};
-ghost use Rattle.vm_run.specs.Ending.{ending_of, status_of, fault_of};
+ghost use Rattle.vm_run.specs.Ending.{ending_of, status_of, fault_of, trace_status};
 
 use crate::outcome::RunFault;
+use trace_check::{TraceFault, Verdict};
 use vm_core::KernelHistory;
 use volume_files::{Disk, DiskFault, HandedBack, OpenFault, OpenStop, Refusal, ScriptFault};
+
+/// What a text is, as a trace.
+#[derive(Clone, Copy, Debug, PartialEq, Eq)]
+pub enum TraceAnswer {
+    /// It stands for a history, which has this verdict.
+    Verdict(Verdict),
+    /// It stands for none.
+    Fault(TraceFault),
+    /// It has more bytes than a trace may have.
+    Long,
+}
+
+/// How the check of a trace ended.
+#[derive(Clone, Copy, Debug, PartialEq, Eq)]
+pub enum TraceEnd {
+    /// The answer was told.
+    Told(TraceAnswer),
+    /// The sink failed in a verdict.
+    Sink,
+}
 
 /// How a run ended, with all that its text needs.
 #[derive(Debug, Drop)]
@@ -33,6 +54,8 @@ pub enum Ending {
     Showing(DiskFault),
     /// There is no memory left.
     Memory,
+    /// A trace was checked in place of a script.
+    Checked(TraceEnd),
 }
 
 /// A run that stopped: how, with what history, and with its disks.
@@ -43,6 +66,18 @@ pub struct Stop<D: Disk> {
     /// The disks that were attached, in rising number.
     pub disks: Vec<D>,
     pub swap: Option<D>,
+}
+
+// The status of a check.
+fn trace_status(end: &TraceEnd) -> u8
+    ensures { result ≡ trace_status end.now }
+{
+    match end {
+        TraceEnd::Told(TraceAnswer::Verdict(Verdict::Legal(_))) => 0,
+        TraceEnd::Told(TraceAnswer::Verdict(Verdict::First(_))) => 9,
+        TraceEnd::Told(TraceAnswer::Fault(_)) | TraceEnd::Told(TraceAnswer::Long) => 3,
+        TraceEnd::Sink => 6,
+    }
 }
 
 impl Ending {
@@ -59,6 +94,7 @@ impl Ending {
             Ending::OpeningSink | Ending::Sink => 6,
             Ending::Opening(_) | Ending::Closing(_) | Ending::Showing(_) => 7,
             Ending::Memory => 8,
+            Ending::Checked(end) => trace_status(end),
         }
     }
 

@@ -2,6 +2,7 @@
 //! written.
 #![tactic(auto)]
 
+mod checking;
 mod concluding;
 mod ending;
 mod ending_files;

@@ -16,7 +16,7 @@ pub enum RunFault {
 /// How a run ended, what its kernel kept, and its disks.
 #[derive(Drop)]
 pub struct Outcome<D: Disk> {
-    /// 0, or 2 to 8.
+    /// 0, or 2 to 9.
     pub status: u8,
     /// The fault that the status 7 names.
     pub fault: Option<RunFault>,

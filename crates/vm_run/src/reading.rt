@@ -6,15 +6,23 @@ ghost use Rattle.volume_files.specs.vm_script.Plans.{plan_of};
 ghost use Rattle.volume_files.specs.vm_script.Rules.{is_join};
 ghost use Rattle.vm_run.specs.Asked as asked;
 ghost use Rattle.vm_run.specs.Course.{AskEnds};
-ghost use Rattle.vm_run.specs.Reading.{IsSpelled, SaysScript, ScriptStops, SourceStops, TakesPlan, TextStops, UnlessUnread};
+ghost use Rattle.vm_run.specs.Reading.{IsAnswer, IsSpelled, SaysScript, ScriptStops, SourceStops, TakesPlan, TextStops, UnlessUnread};
 
-use crate::ending::Ending;
+use crate::checking::check_source;
+use crate::ending::{Ending, TraceAnswer};
 use command_line::{Options, read_options};
 use std::alloc::Global;
 use volume_files::{
     Call, MOST_BYTES, Plan, PlanAct, PlanLine, ReadFault, Refusal, SetupAct, SetupLine, Source,
     broken_rule, generate, parse, read_to_limit, sound_law,
 };
+
+/// What the words ask for, once the source was read: a run, or the answer to a trace.
+#[derive(Drop)]
+pub enum Request {
+    Run(Options, Plan),
+    Check(TraceAnswer),
+}
 
 // A mapping.
 fn is_served_named(call: &Call) -> bool
@@ -135,7 +143,7 @@ fn read_plan<S: Source>(alloc: Global, make: Option<u32>, script: &mut S) -> Res
 }
 
 // A plan that can be run, as far as it alone tells.
-fn take_plan(options: Options, plan: Plan) -> Result<(Options, Plan), Ending>
+fn take_plan(options: Options, plan: Plan) -> Result<Request, Ending>
     requires { IsSpelled plan }
     ensures { TakesPlan options plan result }
 {
@@ -146,21 +154,32 @@ fn take_plan(options: Options, plan: Plan) -> Result<(Options, Plan), Ending>
         Some(rule) => Err(Ending::Refused(Refusal::Rule(rule))),
         None => {
             sound_law();
-            Ok((options, plan))
+            Ok(Request::Run(options, plan))
         }
     }
 }
 
-/// Reads the words, and the script where they name no generated one; a plan that is read keeps the set-up rules that look at it
-/// alone.
+// The answer to the trace of the source.
+fn ask_check<S: Source>(alloc: Global, script: &mut S) -> Result<Request, Ending>
+    ensures answer { IfOk result (λ r. IsAnswer (S.seen script.old).rest r) }
+    ensures stops { IfErr result
+        (SourceStops (S.seen script.old).faults (S.seen script.new).faults) }
+    ensures later { (S.seen script.old).faults ≤ (S.seen script.new).faults }
+    ensures steady { UnlessUnread result
+        ((S.seen script.new).faults ≡ (S.seen script.old).faults) }
+{
+    match check_source(alloc, script) {
+        Ok(answer) => Ok(Request::Check(answer)),
+        Err(how) => Err(how),
+    }
+}
+
+/// Reads the words; and the trace where they ask for a check, which is answered; else the script, where they name no generated
+/// one. A plan that is read keeps the set-up rules that look at it alone.
 ///
-/// Takes memory for the parse of the words, for the script's bytes, at most 1,048,577 of them, and for the plan. Time: that of
-/// the words and of the script's bytes.
-pub fn ask<S: Source>(
-    alloc: Global,
-    words: &[String],
-    script: &mut S,
-) -> Result<(Options, Plan), Ending>
+/// Takes memory for the parse of the words, for the source's bytes, at most 1,048,577 of a script and 16,777,217 of a trace, and
+/// for the plan or the check. Time: that of the words and of the source's bytes.
+pub fn ask<S: Source>(alloc: Global, words: &[String], script: &mut S) -> Result<Request, Ending>
     ensures asks { (holds : Spec → Option (List (List ℕ))) → AskEnds
         (record { words = map string_bytes words.now; rest = (S.seen script.old).rest; holds = holds })
         (S.seen script.old).faults (S.seen script.new).faults result }
@@ -173,6 +192,9 @@ pub fn ask<S: Source>(
         Ok(None) => return Err(Ending::Usage),
         Err(_) => return Err(Ending::Memory),
     };
+    if options.check {
+        return ask_check(alloc, script);
+    }
     match read_plan(alloc, options.make, script) {
         Ok(plan) => take_plan(options, plan),
         Err(how) => Err(how),

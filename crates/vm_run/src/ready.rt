@@ -14,8 +14,9 @@ ghost use Rattle.std.specs.Prelude.{Ok, None, [], length, option_map, vec_capaci
 ghost use Rattle.volume_files.specs.vm_script.Rules.{broken_rule};
 ghost use Rattle.volume_files.specs.Written.{AreOnlyRead};
 
+use crate::checking::tell_answer;
 use crate::ending::{Ending, Stop, stop_unopened};
-use crate::reading::ask;
+use crate::reading::{Request, ask};
 use command_line::Options;
 use std::alloc::Global;
 use vm_core::KernelHistory;
@@ -166,7 +167,8 @@ pub fn make_ready<S: Source, K: Sink, R: Rack>(
     ensures sink { (K.seen out.old).faults ≤ (K.seen out.new).faults }
 {
     match ask(alloc, words, script) {
-        Ok((options, plan)) => ready_plan(alloc, options, plan, out, rack),
+        Ok(Request::Run(options, plan)) => ready_plan(alloc, options, plan, out, rack),
+        Ok(Request::Check(answer)) => Err(bare_stop(alloc, tell_answer(alloc, answer, out))),
         Err(ending) => Err(bare_stop(alloc, ending)),
     }
 }

@@ -19,4 +19,6 @@ returns c =
     let make : c.get_one-3.result ≡ number_of_word (codes "make") (rows_of f) =
     number_found _ (λ bs r. ParsesUnsigned 32 10 bs r × ExplainsUnsignedError 10 bs r × HasUnsignedDigitsIfOk bs r)
     f (codes "make") c.get_one-3.result (λ u x g. g.0) c.get_one-3.ensures.none c.get_one-3.ensures.value in
-    same_options _ _ _ _ _ _ trace pageout make
+    let check : c.unwrap_or-3.result ≡ flag_of_word (codes "check") (rows_of f) =
+    c.unwrap_or-3.ensures ∙ flag_found _ f (codes "check") c.get_one-4.result c.get_one-4.ensures.none c.get_one-4.ensures.value in
+    same_options _ _ _ _ _ _ _ _ trace pageout make check
