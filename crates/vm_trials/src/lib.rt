@@ -2,6 +2,8 @@
 #![tactic(auto)]
 
 #[cfg(test)]
+mod chance_tests;
+#[cfg(test)]
 mod copy_tests;
 #[cfg(test)]
 mod file_tests;

@@ -4,6 +4,7 @@ ghost use Rattle.std.specs.Prelude.{◌≡◌, ◌<◌, ◌≤◌, IfOk, length}
 ghost use Rattle.block_device.specs.MemDiskLook.{look};
 ghost use Rattle.block_device.specs.MemSeen.{disk_of};
 
+use crate::chance_tests::act_by_chance;
 use crate::copy_tests::copy_among_modified;
 use crate::fork_tests::{
     a_fork_drops_a_plan, fork_during_transfers, forks_are_refused, share_pages,
@@ -47,6 +48,9 @@ pub(crate) enum Acts {
     DropAPlan,
     CopyAmongModified,
     GrowATree,
+    /// By chance, of this seed: by the seats of processes 1 and 2, or by three.
+    OfTwoSeats(u32),
+    OfThreeSeats(u32),
 }
 
 /// A state of so many frames and slots, and what is made with it.
@@ -117,6 +121,8 @@ fn make(trial: &mut Trial, acts: Acts) -> Result<(), Fail> {
         Acts::DropAPlan => a_fork_drops_a_plan(trial),
         Acts::CopyAmongModified => copy_among_modified(trial),
         Acts::GrowATree => grow_a_tree(trial),
+        Acts::OfTwoSeats(seed) => act_by_chance(trial, seed, 2),
+        Acts::OfThreeSeats(seed) => act_by_chance(trial, seed, 3),
     }
 }
 

@@ -154,7 +154,7 @@ fn line_of(count: u32, byte: u8) -> Line {
     Line::new(&bytes[..count.min(64) as usize])
 }
 
-fn call_of(what: What) -> Call
+pub(crate) fn call_of(what: What) -> Call
     ensures { IsOnePart result }
 {
     match what {
@@ -544,6 +544,15 @@ fn wrong_block(acts: Acts, number: u32, disk: &MemDisk) -> Option<u8> {
         }
     }
     None
+}
+
+/// Makes an act, whatever is told of it but that a transfer failed, which none does.
+pub(crate) fn make_any(trial: &mut Trial, act: Act) -> Result<(), Fail> {
+    let made = make(trial, act)?;
+    if let Done(Reply::Io { .. }) = made {
+        return Err(Fail::new(format_args!("{act:?} is told {made:?}")));
+    }
+    Ok(())
 }
 
 /// Makes the acts. It fails at the first of which something else is told.

@@ -169,6 +169,16 @@ impl Trial {
         Ok(Trial { state, trips })
     }
 
+    /// Whether a seat has something outside.
+    pub(crate) fn has_out(&self, seat: u32) -> bool {
+        is_out(&self.trips, seat)
+    }
+
+    /// Whether a seat has nothing outside, and its process may make the call.
+    pub(crate) fn can_try(&self, seat: u32, call: &Call) -> bool {
+        may_try(&self.state, &self.trips, seat, call)
+    }
+
     /// Tries a call once. A transfer that it needs begins, where this says so.
     pub(crate) fn try_call(&mut self, seat: u32, call: &Call, begins: bool) -> Result<Told, Fail>
         requires { IsOnePart call.now }
