@@ -1,12 +1,12 @@
 -- THREE CALLERS of one kernel, as it is started and closed.
-use Rattle.std.proofs.Common.{◌≡◌, ℕ, zero, suc, ◌<◌, ◌-◌, List, [], ◌∷◌, length, take, map, None, replicate, refl, sym, ap, ◌∙◌, subst, arith, inl, inr}
+use Rattle.std.proofs.Common.{◌≡◌, ℕ, zero, suc, ◌-◌, List, [], ◌∷◌, length, take, map, None, replicate, refl, sym, ap, ◌∙◌, subst, arith, inl, inr}
 use Rattle.std.specs.Prelude.{slice_index_or}
 use Rattle.std.specs.List.{All}
 use Rattle.kernel_lock.specs.Seats.{HasAll}
 use Rattle.vm_core.proofs.vm_world.Told.{event_law}
 use Rattle.vm_core.specs.Finish.{FitsStill}
 use Rattle.vm_core.specs.vm_world.State.{KernelState, Seats, seats_of}
-use Rattle.vm_kernel.specs.Callers.{KernelSeen, CallerSeen, IsCallerOf, caller_part}
+use Rattle.vm_kernel.specs.Callers.{KernelSeen, CallerSeen, caller_part}
 use Rattle.vm_kernel.specs.Rooms.{AreRooms}
 use Rattle.vm_kernel.specs.Since.{IsSinceOpening}
 use Rattle.vm_kernel.specs.declared.starting.Room.{Room}

@@ -1,5 +1,5 @@
 -- WHAT A CALLER GOES ON WITH: what is known of it holds after each of its calls.
-use Rattle.std.proofs.Common.{◌≡◌, ℕ, zero, suc, ◌+◌, ◌-◌, ◌<◌, ◌≤◌, ◌==◌, Bool, true, false, cond, List, [], ◌∷◌, ◌++◌, length, Option, Some, None, refl, sym, ap, ◌∙◌, ◌||◌, inl, subst, arith}
+use Rattle.std.proofs.Common.{◌≡◌, ℕ, ◌+◌, ◌-◌, ◌<◌, ◌≤◌, ◌==◌, Bool, true, false, cond, List, [], ◌∷◌, ◌++◌, length, Option, Some, None, refl, sym, ap, ◌∙◌, ◌||◌, inl, subst, arith}
 use Rattle.std.specs.Prelude.{IsTrue, IsFalse, MatchOption, if◌then◌else◌}
 use Rattle.std.specs.List.{list_any, filter}
 use Rattle.std.specs.Option.{option_map_or}
@@ -14,13 +14,12 @@ use Rattle.flat_model.proofs.Opens.{last_entry-push}
 use Rattle.vm_core.specs.vm_types.Parts.{next_part, ends_call}
 use Rattle.vm_core.specs.vm_types.WellFormed.{IsWellFormed}
 use Rattle.vm_core.specs.vm_types.declared.call.Call.{Call}
-use Rattle.vm_core.specs.vm_types.declared.call.Call.TheVariants.{Load, Store, Map, Unmap, Protect, Sync, Read, Write, Truncate, Fork, Exit}
+use Rattle.vm_core.specs.vm_types.declared.call.Call.TheVariants.{Load, Store, Map, Unmap, Protect, Fork}
 use Rattle.vm_core.specs.vm_types.declared.call.Entry.{Entry}
 use Rattle.vm_core.specs.vm_types.declared.call.Reply.{Reply}
-use Rattle.vm_core.specs.vm_types.declared.call.Reply.TheVariants as replies
 use Rattle.vm_core.specs.vm_types.declared.call.Reply.TheVariants.{Done}
 use Rattle.vm_core.specs.vm_world.HistoryFits.{has_left, is_exit_of, is_exit}
-use Rattle.vm_core.specs.vm_world.SeatLaws.{IsKnownAlive, IsNewChild, MayComeNext}
+use Rattle.vm_core.specs.vm_world.SeatLaws.{IsKnownAlive, IsNewChild}
 use Rattle.vm_core.specs.vm_world.ServingLaws.{done_entry}
 use Rattle.vm_core.specs.vm_world.State.{KernelState, Sent, is_top, process_parent, room_of}
 use Rattle.vm_kernel.specs.Callers.{KernelSeen, CallerSeen, IsCallerOf}
@@ -133,9 +132,6 @@ working-new k c seat p q n is parent room = subst (λ (x : CallerSeen). IsCaller
     }
 
 -- WHAT IS IN HAND is for the call that was tried last
-pub hand-free : (p : ℕ) (call : Call) (o : Option Sent) → o ≡ None → IsForCall p call o
-hand-free p call o none = subst (IsForCall p call) (sym none) tt
-
 pub hand-none : (p : ℕ) (call : Call) (last : Option Call) (o : Option Sent) → last ≡ None → IsForLast p last o → IsForCall p call o
 hand-none p call None None is hand = tt
 hand-none p call None (Some note) is hand = absurd hand
@@ -300,15 +296,9 @@ dormant o c p q n alive forked last is = record {
   hand = is.hand;
 }
 
-done-is : (r : Reply) → is_done r ≡ true → r ≡ Done
-done-is Done e = refl
-done-is (replies.Word w) e = absurd (let z : false ≡ true = e in cc (z))
-done-is (replies.Mapped a) e = absurd (let z : false ≡ true = e in cc (z))
-done-is (replies.Bytes l) e = absurd (let z : false ≡ true = e in cc (z))
-done-is (replies.Synced n) e = absurd (let z : false ≡ true = e in cc (z))
-done-is (replies.Signal s) e = absurd (let z : false ≡ true = e in cc (z))
-done-is (replies.Refused n) e = absurd (let z : false ≡ true = e in cc (z))
-done-is (replies.Io disk before after) e = absurd (let z : false ≡ true = e in cc (z))
+done-call : (c : CallerSeen) (child : ℕ) (d : CallerSeen) (r : Reply) → is_done r ≡ true → IsCallDone c (Fork child) d r → IsCallDone c (Fork child) d Done
+done-call c child d Done is done = done
+done-call c child d r is done = absurd (cc (is))
 
 -- THE CHILD of a Fork that was done, whether it was born or not
 pub works-child : (k : KernelSeen) (c d before parent : CallerSeen) (p q n : ℕ) (alive forked : Bool) (last : Option Call) (reply : Reply) (born : Bool) → IsWorking k.opening c p q n alive forked last
@@ -320,7 +310,7 @@ works-child k c d before parent p q n alive forked last reply born is told done 
     by_born true told' see =
         works-born k c d p q n alive forked last is see.0 parent see.1
         (subst (λ (x : ℕ). IsTrue (list_any (is_birth x) parent.seat.seen)) is.process
-        (sees-birth before parent c.process (subst (λ (r : Reply). IsCallDone before (Fork c.process) parent r) (done-is reply (sym told')) done) goes))
+        (sees-birth before parent c.process (done-call before c.process parent reply (sym told') done) goes))
     by_born false told' see = subst (λ (x : CallerSeen). IsWorking k.opening x p q n false forked last) (sym see) (dormant k.opening c p q n alive forked last is)
 
 pub sees-number : (born : Bool) (parent c d : CallerSeen) → SeesBirth born parent c d → d.seat.number ≡ c.seat.number

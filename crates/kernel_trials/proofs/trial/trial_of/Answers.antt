@@ -1,4 +1,4 @@
-use Rattle.std.proofs.Common.{◌≡◌, ℕ, ◌<◌, ◌≤◌, List, [], ◌∷◌, length, vec_len, vec_capacity, None, Some, sym, ap, ◌∙◌, subst, refl, arith}
+use Rattle.std.proofs.Common.{◌≡◌, ℕ, ◌≤◌, List, [], length, vec_len, vec_capacity, sym, ap, ◌∙◌, subst, refl, arith}
 use Rattle.kernel_lock.specs.Seats.{newcomer}
 use Rattle.vm_core.specs.vm_world.State.{process_parent, room_of}
 use Rattle.vm_kernel.specs.Callers.{KernelSeen, CallerSeen, IsCallerOf}

@@ -1,5 +1,4 @@
 use Rattle.std.proofs.Common.{◌≡◌, [], ◌∷◌, ◌++◌, List, None, ap, ◌∙◌}
-use Rattle.std.specs.Prelude.{IsTrue}
 use Rattle.vm_kernel.specs.Callers.{CallerSeen, IsCallerOf}
 use Rattle.kernel_trials.proofs.Trials.{all-three, has-three, still-fits}
 use Rattle.kernel_trials.proofs.trial.Trial.close.Given.{Over}

@@ -1,9 +1,10 @@
-use Rattle.std.proofs.Common.{◌≡◌, true, false, sym, ◌∙◌}
-use Rattle.kernel_trials.proofs.Working.{hand-free, hand-none, hand-last, hand-kind}
+use Rattle.std.proofs.Common.{◌≡◌, true, false, sym, subst, ◌∙◌}
+use Rattle.vm_kernel.specs.Turns.{IsForCall}
+use Rattle.kernel_trials.proofs.Working.{hand-none, hand-last, hand-kind}
 use Rattle.kernel_trials.proofs.worker.Worker.call_in_hand.Goals as goal
 
 pub returns-then-is_free-clause-hand : goal.returns-then-is_free-clause-hand
-returns-then-is_free-clause-hand g c = hand-free c.args.self.now.process c.args.call.now c.args.self.now.caller.seat.note (c.is_free.ensures.0 c.if-is_free.true)
+returns-then-is_free-clause-hand g c = subst (IsForCall c.args.self.now.process c.args.call.now) (sym (c.is_free.ensures.0 c.if-is_free.true)) tt
 
 pub returns-in-Some-clause-call : goal.returns-in-Some-clause-call
 returns-in-Some-clause-call g c =
