@@ -4,6 +4,7 @@
 //! prints how many entries there are.
 #![tactic(auto)]
 
+ghost use Rattle.std.specs.Prelude.{◌<◌, ◌^◌, length};
 ghost use Rattle.trace_text.specs.EntryForm.{IsTracedEntry};
 
 use flat_model::Entry;
@@ -59,21 +60,21 @@ fn entries_told(
     text: &[u8],
     steps: bool,
 ) -> Result<u64, AllocError> {
-    let mut count = 0;
     let mut left = text;
-    for _ in 0..text.len() {
+    for count in 0..text.len() {
         let (line, rest) = cut_line(left);
         if !take_line(alloc, flat, line, steps)? {
-            return Ok(count);
+            return Ok(count as u64);
         }
-        count += 1;
         left = rest;
     }
-    Ok(count)
+    Ok(text.len() as u64)
 }
 
 /// How many entries stand behind the lines of the opening part.
-fn entries_of(alloc: Global, text: &[u8], steps: bool) -> Result<u64, AllocError> {
+fn entries_of(alloc: Global, text: &[u8], steps: bool) -> Result<u64, AllocError>
+    requires { length text.now < 2 ^ 31 }
+{
     match read_opening(alloc, text)? {
         Ok(opening) => {
             let mut flat = flat_opened(alloc, &opening)?;
