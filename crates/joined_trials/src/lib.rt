@@ -1,6 +1,5 @@
 //! Trials of disks that stand for two: tables of acts on a stripe, on a mirror and on paired disks of a rack, which fail at
-//! listed calls, and volumes that a rack attaches or doesn't, with what is told of each worked out by hand. There is nothing here
-//! but tests.
+//! listed calls, with what is told of each worked out by hand. There is nothing here but tests.
 #![tactic(auto)]
 
 #[cfg(test)]
@@ -11,5 +10,3 @@ mod mirror_tests;
 mod pair_tests;
 #[cfg(test)]
 mod stripe_tests;
-#[cfg(test)]
-mod volume_tests;
