@@ -1,0 +1,15 @@
+pub mod Lists
+pub mod NextLines
+pub mod Counting
+pub mod Lasts
+pub mod Runs
+pub mod Goings
+pub mod Spelled
+pub mod KernelCalls
+pub mod LineCalls
+pub mod Stretching
+pub mod Joining
+pub mod Over
+pub mod TopBlocks
+pub mod Endings
+pub mod Rooms

@@ -1,0 +1,6 @@
+pub mod Callers
+pub mod Running
+pub mod Rows
+pub mod Lines
+pub mod Closing
+pub mod Conditions
