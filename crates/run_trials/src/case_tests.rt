@@ -3,6 +3,7 @@ use crate::trial::{Fails, NEVER, NO_WORDS, run_trial};
 use std::alloc::Global;
 use std::sync::Wait;
 use std::test::Fail;
+use std::thread::Threads;
 
 pub(crate) const FIRST: &[u8] =
     b"disk 0 blank 8\nfile a rw 0 2 68656c6c6f\nprocess\nmap 0x2000 4096 rw shared a 0\nload 0x2001 1\nstore 0x2000 1 0x4a\nend\n";
@@ -285,15 +286,13 @@ const CASES: [Case; 34] = [
     Case {
         name: "a child",
         script: b"process\nfork\nend\nend\n",
-        status: 3,
-        text: b"script: later\n",
+        text: b"process 1\n2 fork 2\n4 exit ok\nprocess 2\n3 exit ok\n",
         ..WHOLE
     },
     Case {
         name: "two top blocks",
         script: b"process\nend\nprocess\nend\n",
-        status: 3,
-        text: b"script: later\n",
+        text: b"process 1\n2 exit ok\nprocess 2\n4 exit ok\n",
         ..WHOLE
     },
     Case {
@@ -358,7 +357,7 @@ fn fails_of(case: &Case) -> Fails {
 }
 
 // Runs each of these, and looks at how it ended.
-fn look_at(rt: &impl Wait, alloc: Global, cases: &[Case]) -> Result<(), Fail> {
+fn look_at(rt: &(impl Threads + Wait + Sync), alloc: Global, cases: &[Case]) -> Result<(), Fail> {
     for case in cases {
         let left = run_trial(rt, alloc, case.words, case.script, &fails_of(case))?;
         let name = case.name;
@@ -476,7 +475,7 @@ const BROKEN: [Broken; 17] = [
 ];
 
 // Runs each of these, and looks at what it says.
-fn hear(rt: &impl Wait, alloc: Global, scripts: &[Broken]) -> Result<(), Fail> {
+fn hear(rt: &(impl Threads + Wait + Sync), alloc: Global, scripts: &[Broken]) -> Result<(), Fail> {
     for broken in scripts {
         let left = run_trial(rt, alloc, NO_WORDS, broken.script, &NEVER)?;
         if left.status != broken.status || left.text.as_slice() != broken.text {

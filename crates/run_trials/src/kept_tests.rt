@@ -6,6 +6,7 @@ use block_device::Block;
 use std::alloc::{AllocError, Global};
 use std::sync::Wait;
 use std::test::Fail;
+use std::thread::Threads;
 
 // Somebody's volume of eight blocks: a table of version 1 with a file of two pages, whose first page begins with bytes, and no
 // block of zeros.
@@ -121,7 +122,11 @@ const EARLY: [Early; 7] = [
     SECOND_FAILS,
 ];
 
-fn end_early(rt: &impl Wait, alloc: Global, early: &Early) -> Result<Left, Fail> {
+fn end_early(
+    rt: &(impl Threads + Wait + Sync),
+    alloc: Global,
+    early: &Early,
+) -> Result<Left, Fail> {
     let name = early.name;
     let before = volume(alloc)?;
     let left = run_kept(rt, alloc, early.words, early.script, &early.fails, &before)?;
@@ -135,7 +140,7 @@ fn end_early(rt: &impl Wait, alloc: Global, early: &Early) -> Result<Left, Fail>
     }
 }
 
-fn end_each(rt: &impl Wait, alloc: Global, cases: &[Early]) -> Result<(), Fail> {
+fn end_each(rt: &(impl Threads + Wait + Sync), alloc: Global, cases: &[Early]) -> Result<(), Fail> {
     for early in cases {
         end_early(rt, alloc, early)?;
     }

@@ -4,6 +4,7 @@ use block_device::{
 };
 use std::alloc::{AllocError, Global};
 use std::sync::Wait;
+use std::thread::Threads;
 use vm_run::{Outcome, RunFault, run};
 use vm_types::Entry;
 
@@ -100,7 +101,7 @@ fn left_of(alloc: Global, outcome: &Outcome<MemDisk>, text: Vec<u8>) -> Result<L
 
 // The outcome of a run over this rack, and what it prints. The source gives 7 bytes a call, and the sink takes 5.
 fn run_over<R: Rack>(
-    rt: &impl Wait,
+    rt: &(impl Threads + Wait + Sync),
     alloc: Global,
     words: &str,
     script: &[u8],
@@ -117,7 +118,7 @@ fn run_over<R: Rack>(
 
 /// Runs a script over memory forms, for these words.
 pub(crate) fn run_trial(
-    rt: &impl Wait,
+    rt: &(impl Threads + Wait + Sync),
     alloc: Global,
     words: &str,
     script: &[u8],
@@ -130,7 +131,7 @@ pub(crate) fn run_trial(
 
 /// Runs a script over memory forms, for these words, with a disk of these blocks under the path v.
 pub(crate) fn run_kept(
-    rt: &impl Wait,
+    rt: &(impl Threads + Wait + Sync),
     alloc: Global,
     words: &str,
     script: &[u8],
@@ -172,7 +173,7 @@ impl<R: Rack + Drop> Rack for UntoldRack<R> {
 
 /// Runs a script over memory forms that tell nothing: its status, and what it prints.
 pub(crate) fn run_untold(
-    rt: &impl Wait,
+    rt: &(impl Threads + Wait + Sync),
     alloc: Global,
     script: &[u8],
 ) -> Result<(u8, Vec<u8>), AllocError> {

@@ -78,13 +78,19 @@ fn what_is_asked_is_read_or_a_line_says_why_not(rt: HostRuntime) -> Result<(), F
             b"usage: sunvm [--trace] [--pageout N] [--make N]\n",
         ),
         (NO_WORDS, b"process\nbad\n", 0, 3, b"script: line 2: word\n"),
-        (NO_WORDS, TWO, 0, 3, b"script: later\n"),
+        (
+            NO_WORDS,
+            TWO,
+            0,
+            0,
+            b"process 1\n2 exit ok\nprocess 2\n4 exit ok\n",
+        ),
         (
             NO_WORDS,
             b"process\nfork\nend\nend\n",
             0,
-            3,
-            b"script: later\n",
+            0,
+            b"process 1\n2 fork 2\n4 exit ok\nprocess 2\n3 exit ok\n",
         ),
         (
             NO_WORDS,

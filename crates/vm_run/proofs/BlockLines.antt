@@ -1,9 +1,9 @@
--- The lines of a plan of one block at most, all of which are served.
-use Rattle.volume_files.proofs.vm_script.GivenDisks.{not_false as not-false}
-use Rattle.std.proofs.Common.{◌≡◌, ℕ, zero, suc, ◌+◌, ◌<◌, ◌≤◌, Bool, true, false, not, List, [], ◌∷◌, ◌++◌, length, Option, Some, None, refl, sym, ap, ◌∙◌, ◌⊎◌, inl, inr, subst, arith}
-use Rattle.std.specs.Prelude.{All, IsTrue, IsFalse, slice_index_or, nat_lt, ◌||◌}
-use Rattle.std.specs.List.{list_all, list_any}
-use Rattle.std.proofs.lemmas.Bool.{ltb-false, or_parts as both-false}
+-- The lines of a plan of one block at most, which neither forks nor waits.
+use Rattle.std.proofs.Common.{◌≡◌, ℕ, zero, suc, ◌+◌, ◌<◌, ◌≤◌, true, false, List, [], ◌∷◌, ◌++◌, length, Option, Some, None, refl, sym, ap, ◌∙◌, ◌⊎◌, inl, inr, subst, arith}
+use Rattle.std.specs.Prelude.{All, IsTrue, IsFalse, slice_index_or, nat_le}
+use Rattle.std.specs.List.{list_all}
+use Rattle.std.proofs.lemmas.Bool.{and_parts}
+use Rattle.std.proofs.lemmas.Bool.Decides.{nat_tests}
 use Rattle.std.proofs.lemmas.List.{append-nil}
 use Rattle.std.proofs.lemmas.List.Elements.{All-nil, All-cons, All-head, All-tail}
 use Rattle.std.proofs.lemmas.List.Sums.{AllPass-from_list_all, sum_by-cons}
@@ -14,20 +14,18 @@ use Rattle.vm_core.specs.Calls.{IsOnOwnSpace}
 use Rattle.volume_files.specs.vm_script.declared.plan.PlanAct.{PlanAct}
 use Rattle.volume_files.specs.vm_script.declared.plan.PlanAct.TheVariants as act
 use Rattle.volume_files.specs.vm_script.declared.plan.PlanLine.{PlanLine}
-use Rattle.volume_files.specs.vm_script.declared.plan.SetupLine.{SetupLine}
 use Rattle.volume_files.specs.vm_script.Blocks.{IsInner, IsProcessBlock, ends, goes_on, forks, AreProcessBlocks, over, block}
 use Rattle.volume_files.specs.vm_script.Counts.{entry_count, parts, call_parts}
 use Rattle.volume_files.specs.vm_script.PlanSeen.{PlanSeen}
-use Rattle.volume_files.specs.vm_script.Rules.{is_join}
 use Rattle.volume_files.specs.vm_script.Sound.{IsSoundAct}
 use Rattle.volume_files.specs.vm_script.Told.{parent_of}
 use Rattle.vm_core.specs.vm_world.HistoryFits.{is_exit}
-use Rattle.vm_run.specs.Asked.{is_served_call, is_served_named, is_served_act}
-use Rattle.vm_run.specs.Lines.{line_call, line_calls, MayBeMade, AreLines}
+use Rattle.vm_run.specs.Asked.{is_served_named}
+use Rattle.vm_run.specs.Lines.{is_alone, is_plain_act, line_call, line_calls, MayBeMade, AreLines}
 use Rattle.vm_run.specs.Played.{IsPlayable}
 
 -- THE CALL of a line that is served
-pub served-call : (c : Call) → IsTrue (is_served_call c) → IsOnOwnSpace c
+pub served-call : (c : Call) → IsTrue (is_plain_act (act.Call c)) → IsOnOwnSpace c
 served-call (call.Load a n) is = tt
 served-call (call.Store a n v) is = tt
 served-call (call.Map place len prot kind o offset) is = tt
@@ -41,7 +39,7 @@ served-call (call.Fork child) is = absurd (let z : false ≡ true = is in cc)
 served-call call.Exit is = tt
 
 -- a call that a file's line makes is one of the calls that are served
-pub named-call : (c : Call) → IsTrue (is_served_named c) → IsTrue (is_served_call c) × IsFalse (is_exit c)
+pub named-call : (c : Call) → IsTrue (is_served_named c) → IsTrue (is_plain_act (act.Call c)) × IsFalse (is_exit c)
 named-call (call.Map place len prot kind o offset) is = (refl, refl)
 named-call (call.Load a n) is = absurd (let z : false ≡ true = is in cc)
 named-call (call.Store a n v) is = absurd (let z : false ≡ true = is in cc)
@@ -54,13 +52,13 @@ named-call (call.Truncate file len) is = absurd (let z : false ≡ true = is in 
 named-call (call.Fork child) is = absurd (let z : false ≡ true = is in cc)
 named-call call.Exit is = absurd (let z : false ≡ true = is in cc)
 
-pub served-line : (a : PlanAct) → IsTrue (is_served_act a) → IsOnOwnSpace (line_call a)
+pub served-line : (a : PlanAct) → IsTrue (is_plain_act a) → IsOnOwnSpace (line_call a)
 served-line (act.Call c) is = served-call c is
 served-line (act.Named name c) is = served-call c (named-call c is).0
 served-line (act.Write name file offset bytes) is = absurd (let z : false ≡ true = is in cc)
 served-line act.Wait is = absurd (let z : false ≡ true = is in cc)
 
-formed-line : (a : PlanAct) → IsTrue (is_served_act a) → IsSoundAct a → IsWellFormed (line_call a)
+formed-line : (a : PlanAct) → IsTrue (is_plain_act a) → IsSoundAct a → IsWellFormed (line_call a)
 formed-line (act.Call c) is sound = sound
 formed-line (act.Named name c) is sound = sound
 formed-line (act.Write name file offset bytes) is sound = absurd (let z : false ≡ true = is in cc)
@@ -80,7 +78,7 @@ inner-call (call.Truncate file len) is = refl
 inner-call (call.Fork child) is = refl
 inner-call call.Exit is = absurd is
 
-inner-line : (a : PlanAct) → IsTrue (is_served_act a) → IsInner a → IsFalse (is_exit (line_call a))
+inner-line : (a : PlanAct) → IsTrue (is_plain_act a) → IsInner a → IsFalse (is_exit (line_call a))
 inner-line (act.Call c) is inner = inner-call c inner
 inner-line (act.Named name c) is inner = (named-call c is).1
 inner-line (act.Write name file offset bytes) is inner = absurd (let z : false ≡ true = is in cc)
@@ -100,20 +98,20 @@ one-part (call.Truncate file len) is = refl
 one-part (call.Fork child) is = refl
 one-part call.Exit is = refl
 
-one-entry : (a : PlanAct) → IsTrue (is_served_act a) → parts a ≡ 1
+one-entry : (a : PlanAct) → IsTrue (is_plain_act a) → parts a ≡ 1
 one-entry (act.Call c) is = one-part c (served-call c is)
 one-entry (act.Named name c) is = one-part c (served-call c (named-call c is).0)
 one-entry (act.Write name file offset bytes) is = absurd (let z : false ≡ true = is in cc)
 one-entry act.Wait is = absurd (let z : false ≡ true = is in cc)
 
 abbrev pub AreServed : List PlanLine → Type 0
-AreServed lines = All (λ (l : PlanLine). IsTrue (is_served_act l.act)) lines
+AreServed lines = All (λ (l : PlanLine). IsTrue (is_plain_act l.act)) lines
 
 pub entries-of-lines : (lines : List PlanLine) → AreServed lines → entry_count lines ≡ length lines
 entries-of-lines [] served = refl
 entries-of-lines (l ∷ lines) served =
-    let one = one-entry l.act (All-head (λ (k : PlanLine). IsTrue (is_served_act k.act)) l lines served) in
-    let rest = entries-of-lines lines (All-tail (λ (k : PlanLine). IsTrue (is_served_act k.act)) l lines served) in
+    let one = one-entry l.act (All-head (λ (k : PlanLine). IsTrue (is_plain_act k.act)) l lines served) in
+    let rest = entries-of-lines lines (All-tail (λ (k : PlanLine). IsTrue (is_plain_act k.act)) l lines served) in
     let more : 1 + length lines ≡ suc (length lines) = omega arith in
     sum_by-cons (λ (k : PlanLine). parts k.act) l lines ∙ ap (λ (n : ℕ). n + entry_count lines) one ∙ ap (λ (n : ℕ). 1 + n) rest ∙ more
 
@@ -131,7 +129,7 @@ a-run parents p n k lines (ends _ _ line) served = record {
 }
 a-run parents p n k lines (goes_on _ _ _ line a rest inside body) served =
     let l : PlanLine = record { line = line; process = p; act = a } in
-    let P : PlanLine → Type 0 = λ k. IsTrue (is_served_act k.act) in
+    let P : PlanLine → Type 0 = λ k. IsTrue (is_plain_act k.act) in
     let run = a-run parents p n k rest body (All-tail P l rest served) in
     record {
       next = run.next;
@@ -144,7 +142,7 @@ a-run parents p n k lines (goes_on _ _ _ line a rest inside body) served =
     by_place first more zero lt = first
     by_place first more (suc i) lt = more i (omega (arith, lt))
 a-run parents p n k lines (forks _ _ m _ line child rest _ born body) served =
-    absurd (let z : false ≡ true = All-head (λ (k : PlanLine). IsTrue (is_served_act k.act)) _ (child ++ rest) served in cc)
+    absurd (let z : false ≡ true = All-head (λ (k : PlanLine). IsTrue (is_plain_act k.act)) _ (child ++ rest) served in cc)
 
 no-parent : (n : ℕ) (top : ℕ) → parent_of [] n ≡ Some top → ⊥
 no-parent zero top is = cc
@@ -192,9 +190,9 @@ one-run q n m lines first last (block _ k _ own rest top body after) served = wi
     own-served = take-served own rest served
       where
         take-served : (xs ys : List PlanLine) → AreServed (xs ++ ys) → AreServed xs
-        take-served [] ys all = All-nil (λ (l : PlanLine). IsTrue (is_served_act l.act))
+        take-served [] ys all = All-nil (λ (l : PlanLine). IsTrue (is_plain_act l.act))
         take-served (x ∷ xs) ys all =
-            let P : PlanLine → Type 0 = λ l. IsTrue (is_served_act l.act) in
+            let P : PlanLine → Type 0 = λ l. IsTrue (is_plain_act l.act) in
             All-cons P x xs (All-head P x (xs ++ ys) all) (take-served xs ys (All-tail P x (xs ++ ys) all))
 
     with_rest : ((rest ≡ []) ⊎ (k < 2)) → IsOneRun q (own ++ rest)
@@ -215,16 +213,14 @@ pub record PlaysOne (plan : PlanSeen) : Type 0 where
   pub own : All (λ (l : PlanLine). l.process ≡ 1) plan.lines
   pub blocks : ((plan.parents ≡ []) × (plan.lines ≡ [])) ⊎ (plan.parents ≡ 0 ∷ [])
 
-pub plays-one : (plan : PlanSeen) → IsPlayable plan → PlaysOne plan
-plays-one plan may = by_parents plan.parents refl
+pub plays-one : (plan : PlanSeen) → IsPlayable plan → is_alone plan ≡ true → PlaysOne plan
+plays-one plan may alone = by_parents plan.parents refl
   where
-    parts-of : (nat_lt 1 (length plan.parents) ≡ false) × (not (list_all (λ (l : PlanLine). is_served_act l.act) plan.lines) ≡ false)
-    parts-of =
-        let later : Bool = nat_lt 1 (length plan.parents) || not (list_all (λ (l : PlanLine). is_served_act l.act) plan.lines) in
-        both-false (nat_lt 1 (length plan.parents)) (not (list_all (λ (l : PlanLine). is_served_act l.act) plan.lines)) (both-false (list_any (λ (l : SetupLine). is_join l.act) plan.setup) later may.now).1
+    parts-of : (nat_le (length plan.parents) 1 ≡ true) × (list_all (λ (l : PlanLine). is_plain_act l.act) plan.lines ≡ true)
+    parts-of = and_parts (nat_le (length plan.parents) 1) (list_all (λ (l : PlanLine). is_plain_act l.act) plan.lines) alone
 
     served : AreServed plan.lines
-    served = AllPass-from_list_all (λ (l : PlanLine). is_served_act l.act) plan.lines (not-false _ parts-of.1)
+    served = AllPass-from_list_all (λ (l : PlanLine). is_plain_act l.act) plan.lines parts-of.1
 
     each : All MayBeMade plan.lines
     each i d lt = record { served = served i d lt; formed = formed-line (slice_index_or plan.lines i d).act (served i d lt) (may.sound.acts i d lt) }
@@ -252,6 +248,6 @@ plays-one plan may = by_parents plan.parents refl
           blocks = inr (is ∙ ap (λ (p : ℕ). p ∷ []) run.top);
         }
     by_parents (q ∷ r ∷ ps) is =
-        let low = ltb-false 1 (length plan.parents) parts-of.0 in
+        let low : length plan.parents ≤ 1 = grind (arith, nat_tests, parts-of.0) in
         let long : length plan.parents ≡ suc (suc (length ps)) = ap (λ (xs : List ℕ). length xs) is in
         absurd (omega (arith, low, long))

@@ -9,7 +9,6 @@ use Rattle.volume_files.specs.block_device.Counts.{HasRisen}
 use Rattle.volume_files.specs.block_device.OpenSeen.{OpenFaultSeen}
 use Rattle.vm_run.specs.declared.ending.Ending.{Ending}
 use Rattle.vm_run.specs.declared.ending.Ending.TheVariants as ending
-use Rattle.volume_files.specs.declared.stops.Refusal.{Refusal}
 use Rattle.volume_files.specs.vm_script.Plans.{plan_of}
 use Rattle.command_line.specs.declared.options.Options.{Options}
 use Rattle.vm_run.specs.Asked.{Given, Asked, Asks, WasAsked, run_request, request_of_options, by_script, script_told}

@@ -5,11 +5,13 @@ use Rattle.std.specs.Prelude.{◌^◌, slice_index, slice_index_or, slice_set, f
 use Rattle.std.proofs.lemmas.Bool.{cases_eq, eq-eqb, ne_eqb, cases_lt}
 use Rattle.std.proofs.lemmas.List.{get_or-set_same, get_or-set_other}
 use Rattle.std.proofs.lemmas.List.Elements.{All-nil, All-append, All-weaker, All-head, All-tail}
-use Rattle.std.proofs.lemmas.List.Sums.{sum_by-cons, sum_by_more, sum_by_more_le_part}
+use Rattle.std.proofs.lemmas.List.Sums.{sum_by-cons, sum_by-set, sum_by_more, sum_by_more_le_part}
 use Rattle.volume_files.specs.vm_script.declared.plan.PlanLine.{PlanLine}
 use Rattle.volume_files.specs.vm_script.Blocks.{AreProcessBlocks, over, block, IsWithin, Nests}
 use Rattle.volume_files.specs.vm_script.Counts.{parts, entry_count}
 use Rattle.volume_files.specs.vm_script.PlanSeen.{PlanSeen}
+use Rattle.volume_files.specs.vm_script.Told.{own_lines}
+use Rattle.vm_core.specs.vm_world.State.{room_of}
 use Rattle.volume_files.proofs.vm_script.Ranges.{within}
 use Rattle.vm_run.specs.Played.{HasRoomForPlan}
 
@@ -128,12 +130,28 @@ rooms-more lines rooms i l lt at own have p below =
           (ap (part_of (suc p)) at ∙ ap (λ (b : Bool). cond b (parts l.act) 0) (ne_eqb l.process (suc p) other)) ∙ add-zero (sum_by (part_of (suc p)) (take i lines)))
     ]
 
-pub rooms-all : (plan : PlanSeen) (rooms : List ℕ) → Nests plan → length rooms ≡ length plan.parents → HaveRooms plan.lines rooms → HasRoomForPlan plan rooms
-rooms-all plan rooms nests count have zero = let none = own-entries 0 plan.lines
-    ∙ none-own 0 (length plan.parents) plan.lines (λ h. absurd (let a = h.0 in omega (arith, a))) (owned plan nests) in omega (arith, none)
-rooms-all plan rooms nests count have (suc p) = elim (cases_lt p (length rooms)) [
-  | inl lt ↦ let here = own-entries (suc p) plan.lines ∙ sym (have p lt) in omega (arith, here)
-  | inr ge ↦
-      let none = own-entries (suc p) plan.lines ∙ none-own (suc p) (length plan.parents) plan.lines (λ h. absurd (let a = h.1 in omega (arith, a, count, ge))) (owned plan nests) in
-      omega (arith, none)
-]
+-- a line's entries more in all
+pub total-more : (lines : List PlanLine) (rooms : List ℕ) (i : ℕ) (l : PlanLine) → i < length lines → slice_index_or lines i l ≡ l → IsOwned (length rooms) l
+    → sum_by (λ n. n) rooms ≡ entry_count (take i lines)
+    → sum_by (λ n. n) (slice_set rooms (l.process - 1) (slice_index rooms (l.process - 1) + parts l.act)) ≡ entry_count (take (i + 1) lines)
+total-more lines rooms i l lt at own total =
+    let low = own.0 in
+    let high = own.1 in
+    let place = l.process - 1 in
+    let old = slice_index rooms place in
+    let set = sum_by-set (λ n. n) rooms place (old + parts l.act) 0 (omega (arith, low, high)) in
+    let more = sum_by_more (λ (k : PlanLine). parts k.act) lines i l lt ∙ ap (λ (k : PlanLine). entry_count (take i lines) + parts k.act) at in
+    omega (arith, set, more, total)
+
+pub rooms-all : (plan : PlanSeen) (rooms : List ℕ) → Nests plan → length rooms ≡ length plan.parents → HaveRooms plan.lines rooms → sum_by (λ n. n) rooms ≡ entry_count plan.lines
+    → entry_count plan.lines ≤ 1048576 → HasRoomForPlan plan rooms
+rooms-all plan rooms nests count have total few = record { each = each; all = omega (arith, total, few) }
+  where
+    each : (p : ℕ) → entry_count (own_lines plan p) ≤ room_of rooms p
+    each zero = let none = own-entries 0 plan.lines ∙ none-own 0 (length plan.parents) plan.lines (λ h. absurd (let a = h.0 in omega (arith, a))) (owned plan nests) in omega (arith, none)
+    each (suc p) = elim (cases_lt p (length rooms)) [
+      | inl lt ↦ let here = own-entries (suc p) plan.lines ∙ sym (have p lt) in omega (arith, here)
+      | inr ge ↦
+          let none = own-entries (suc p) plan.lines ∙ none-own (suc p) (length plan.parents) plan.lines (λ h. absurd (let a = h.1 in omega (arith, a, count, ge))) (owned plan nests) in
+          omega (arith, none)
+    ]

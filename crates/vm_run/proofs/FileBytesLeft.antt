@@ -31,7 +31,7 @@ use Rattle.volume_files.proofs.flat_model.WellFormed.{IsFlat-tails_cleared}
 use Rattle.vm_core.specs.Finish.{IsFilePage, disk_at, HoldAllFiles, HoldsPage}
 use Rattle.vm_core.proofs.Fills.{block-within}
 use Rattle.vm_core.proofs.Records.{disk-kept, info-kept, page-kept, records-back}
-use Rattle.vm_core.specs.vm_world.Events.{IsEvent}
+use Rattle.vm_core.specs.vm_world.Events.{IsSince}
 use Rattle.vm_core.specs.vm_world.FlatMemory.{file_with_pages, files_with_pages, flat_memory, pages_from}
 use Rattle.vm_core.specs.vm_world.Opening.{no_seats}
 use Rattle.vm_core.specs.vm_world.Pages.{contents_of, page_value}
@@ -47,7 +47,7 @@ use Rattle.volume_files.specs.Opened.{stored_bytes}
 use Rattle.vm_run.specs.Played.{LeftSeen}
 use Rattle.volume_files.specs.Written.{infos_made}
 use Rattle.vm_run.proofs.FileRecords.{history-left, record-at}
-use Rattle.vm_run.proofs.Returned.{Closes, all-tell, are-left, at-place, fits-after}
+use Rattle.vm_run.proofs.Returned.{Closes, all-tell, are-left, at-place}
 
 -- whole lists of 4096 bytes with equal fronts have equal bytes up to a length
 record SameFront (len : ℕ) (b p : List ℕ) : Type 0 where
@@ -109,9 +109,9 @@ bytes-cleared test (file ∷ files) zero d all = by_test (test 0)
     by_test false = refl
 bytes-cleared test (file ∷ files) (suc k) d all = bytes-cleared (λ f. test (suc f)) files k d (All-tail IsFile file files all)
 
-module _ (F : Flat) (s t : KernelState) (l : LeftSeen) (event : IsEvent 0 s None t None) (before : StateFits F s no_seats) (c : Closes t l) where
+module _ (F : Flat) (s t : KernelState) (l : LeftSeen) (since : IsSince s t no_seats) (before : StateFits F s no_seats) (c : Closes t l) where
   after : StateFits F t no_seats
-  after = fits-after F s t event before
+  after = since.fits F before
 
   abbrev old : FilesSeen
   old = t.memory.world.files
@@ -123,7 +123,7 @@ module _ (F : Flat) (s t : KernelState) (l : LeftSeen) (event : IsEvent 0 s None
   info_of k = (vnode_at l.files k).info
 
   apart : (k : ℕ) → k < length l.files.files → (k == 64) ≡ false
-  apart k lt = not-slot k (file-apart l.files k (are-left F s t l event before c).fits lt)
+  apart k lt = not-slot k (file-apart l.files k (are-left F s t l since before c).fits lt)
 
   -- the file in flat memory as it is
   file-now : (k : ℕ) (d : File) → k < length l.files.files → slice_index_or (flat_memory t.memory t.born no_notes).files k d ≡ file_with_pages (page_of k) (info_of k)
@@ -142,7 +142,7 @@ module _ (F : Flat) (s t : KernelState) (l : LeftSeen) (event : IsEvent 0 s None
   -- its pages are whole
   page-whole : HaveTold (bare_disks l.disks) l.swap → (k j : ℕ) → k < length l.files.files → j < pages_in (info_of k).length → length (page_of k j) ≡ 4096
   page-whole told k j lt below =
-      let fits = history-left F s t l event before c told in
+      let fits = history-left F s t l since before c told in
       let flat : IsFlat (flat_memory t.memory t.born no_notes) = subst IsFlat (sym fits.shows) (IsFlat-tails_cleared (replay F t.history) (is_bit_set t.pending) fits.whole) in
       let d : File = file_with_pages (page_of k) (info_of k) in
       let count : length (flat_memory t.memory t.born no_notes).files ≡ length l.files.files =
@@ -197,7 +197,7 @@ module _ (F : Flat) (s t : KernelState) (l : LeftSeen) (event : IsEvent 0 s None
               let z : 0 + j ≡ j = omega arith in
               let here_p : at (pages_from (page_of k) 0 (pages_in (info_of k).length)) j ≡ page_of k j =
               index-of (pages_from (page_of k) 0 (pages_in (info_of k).length)) j [] (page_of k (0 + j)) (page-in (page_of k) 0 (pages_in (info_of k).length) j below) ∙ ap (page_of k) z in
-              let low : place < (disk_at l.disks i).1.size = block-within l.files l.disks i name (are-left F s t l event before c) inside file_page on_disk in
+              let low : place < (disk_at l.disks i).1.size = block-within l.files l.disks i name (are-left F s t l since before c) inside file_page on_disk in
               let count = blocks-whole.0 in
               let whole_b : length (slice_index_or blocks place []) ≡ 4096 = (blocks-whole.1 place (omega (arith, low, count))).0 in
               let whole_p : length (page_of k j) ≡ 4096 = page-whole told k j lt below in
@@ -217,7 +217,7 @@ module _ (F : Flat) (s t : KernelState) (l : LeftSeen) (event : IsEvent 0 s None
       flat-bytes : HaveTold (bare_disks l.disks) l.swap → (k : ℕ) → k < length l.files.files
           → take (info_of k).length (concat (pages_from (page_of k) 0 (pages_in (info_of k).length))) ≡ flat_bytes (replay F l.history.entries).files k
       flat-bytes told k lt =
-          let fits = history-left F s t l event before c told in
+          let fits = history-left F s t l since before c told in
           let d : File = record { len = 0; disk = 0; extents = []; writable = false; pages = [] } in
           sym (ap file_bytes (file-now k d lt))
           ∙ ap (λ (G : Flat). file_bytes (slice_index_or G.files k d)) fits.shows
@@ -234,7 +234,7 @@ module _ (F : Flat) (s t : KernelState) (l : LeftSeen) (event : IsEvent 0 s None
           let is : disk_at l.disks i ≡ disk = at-place l.disks i disk there in
           let info : info_at (infos_made l.files) k ≡ info_of k = record-at l.files k low in
           let number : disk_of_file l.files k ≡ (disk_at l.disks i).0 = sym (ap (λ (x : FileInfo). x.disk) info) ∙ on_disk ∙ sym (ap (λ (x : ℕ × DiskSeen). x.0) is) in
-          let holds = closed (all-tell F s t l event before c told) i inside in
+          let holds = closed (all-tell F s t l since before c told) i inside in
           let have = by_content k i (disk_at l.disks i).1.content told low inside refl number holds in
           subst (λ (x : ℕ × DiskSeen). IfSome x.1.content (λ blocks. stored_bytes blocks (info_at (infos_made l.files) k) ≡ flat_bytes (replay F l.history.entries).files k)) is
           (subst (λ (i' : FileInfo). IfSome (disk_at l.disks i).1.content (λ blocks. stored_bytes blocks i' ≡ flat_bytes (replay F l.history.entries).files k)) (sym info)

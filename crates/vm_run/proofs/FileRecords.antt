@@ -1,5 +1,5 @@
 -- The records of files that come back, and whether their disks told at the start.
-use Rattle.std.proofs.Common.{◌≡◌, ℕ, suc, ◌<◌, ◌≤◌, Bool, true, false, cond, List, [], ◌∷◌, length, map, None, refl, sym, ap, ◌∙◌, inl, inr, subst, arith}
+use Rattle.std.proofs.Common.{◌≡◌, ℕ, suc, ◌<◌, ◌≤◌, Bool, true, false, cond, List, [], ◌∷◌, length, map, refl, sym, ap, ◌∙◌, inl, inr, subst, arith}
 use Rattle.std.specs.FinMap as finite
 use Rattle.std.proofs.lemmas.Bool.{cases_Bool}
 use Rattle.std.proofs.lemmas.List.{get_or-map, length-map}
@@ -20,7 +20,7 @@ use Rattle.volume_files.specs.flat_model.Words.{Page}
 use Rattle.volume_files.proofs.flat_model.Frames.{StepFrame-step}
 use Rattle.volume_files.proofs.flat_model.Lives.{AreBorn-step}
 use Rattle.volume_files.proofs.flat_model.Opened.{IsFlat-opening}
-use Rattle.vm_core.specs.vm_world.Events.{IsEvent}
+use Rattle.vm_core.specs.vm_world.Events.{IsSince}
 use Rattle.vm_core.specs.vm_world.FlatMemory.{files_with_pages, flat_memory}
 use Rattle.vm_core.specs.vm_world.HistoryFits.{HistoryFits}
 use Rattle.vm_core.specs.vm_world.Opening.{no_seats}
@@ -34,7 +34,7 @@ use Rattle.volume_files.specs.Handed.{HaveTold}
 use Rattle.vm_run.specs.Played.{LeftSeen}
 use Rattle.volume_files.specs.Written.{infos_made}
 use Rattle.volume_files.specs.Written.{HaveExtents, LieWell}
-use Rattle.vm_run.proofs.Returned.{Closes, fits-after, all-tell, are-left}
+use Rattle.vm_run.proofs.Returned.{Closes, all-tell, are-left}
 
 -- what of a file never changes, by its record
 abbrev mode_in : FileInfo → FileMode
@@ -74,24 +74,24 @@ slots-replay : (F : Flat) (H : List Entry) → AreBorn F → Steps F H → (repl
 slots-replay F [] born steps = refl
 slots-replay F (e ∷ H) born steps = slots-replay (step F e) H (AreBorn-step F e born steps.0) steps.1 ∙ (StepFrame-step F e born steps.0).slots
 
-module _ (F : Flat) (s t : KernelState) (l : LeftSeen) (event : IsEvent 0 s None t None) (before : StateFits F s no_seats) (c : Closes t l) where
+module _ (F : Flat) (s t : KernelState) (l : LeftSeen) (since : IsSince s t no_seats) (before : StateFits F s no_seats) (c : Closes t l) where
   pub modes-left : map mode_of l.files.files ≡ map mode_of s.memory.world.files.files
   modes-left =
-      modes-by l.files.files ∙ ap (map mode_in) c.files.infos ∙ sym (modes-by t.memory.world.files.files) ∙ ap (λ (f : Fixed). f.files) event.fixed
+      modes-by l.files.files ∙ ap (map mode_in) c.files.infos ∙ sym (modes-by t.memory.world.files.files) ∙ ap (λ (f : Fixed). f.files) since.fixed
 
   pub lie-left : LieWell l.files
   lie-left =
-      let fits = (are-left F s t l event before c).fits in
+      let fits = (are-left F s t l since before c).fits in
       record { few_files = c.few; sound = c.sound; on_disks = fits.lie; apart = fits.apart; few = fits.few }
 
   pub extents-left : HaveExtents (infos_made l.files)
   extents-left k lt =
       let count = length-map l.files.files (λ (v : VnodeSeen). v.info) in
       let low : k < length l.files.files = omega (arith, count, lt) in
-      subst (λ (i : FileInfo). 1 ≤ length i.extents) (sym (record-at l.files k low)) ((are-left F s t l event before c).fits.some k low)
+      subst (λ (i : FileInfo). 1 ≤ length i.extents) (sym (record-at l.files k low)) ((are-left F s t l since before c).fits.some k low)
 
   pub history-left : HaveTold (bare_disks l.disks) l.swap → HistoryFits F t.history t.pending (flat_memory t.memory t.born no_notes)
-  history-left told = (fits-after F s t event before).replays (all-tell F s t l event before c told)
+  history-left told = (since.fits F before).replays (all-tell F s t l since before c told)
 
   pub legal-left : HaveTold (bare_disks l.disks) l.swap → Legal F l.history.entries
   legal-left told = subst (Legal F) (sym c.entries) (history-left told).legal
@@ -131,7 +131,7 @@ module _ (F : Flat) (s t : KernelState) (l : LeftSeen) (event : IsEvent 0 s None
       slots-then : tells s.memory.world.store no_notes (world_table s.memory.world name).disk ≡ false → (n : ℕ) → length t.memory.world.anon.counts ≡ n
       slots-then silent n =
           let G : Flat = flat_at_opening n finite.empty [] [] in
-          let fits : HistoryFits G t.history t.pending (flat_memory t.memory t.born no_notes) = (fits-after G s t event (any silent G)).replays (all-tell F s t l event before c told) in
+          let fits : HistoryFits G t.history t.pending (flat_memory t.memory t.born no_notes) = (since.fits G (any silent G)).replays (all-tell F s t l since before c told) in
           ap (λ (f : Flat). f.slots) fits.shows ∙ slots-replay G t.history (IsFlat-opening n).born fits.legal.steps
 
       never : tells s.memory.world.store no_notes (world_table s.memory.world name).disk ≡ false → ⊥

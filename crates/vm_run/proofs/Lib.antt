@@ -31,3 +31,6 @@ pub mod Asking
 pub mod PlayablePlans
 pub mod StartedFiles
 pub mod TracesRead
+pub mod Histories
+pub mod CallerRooms
+pub mod KernelRows

@@ -1,5 +1,5 @@
 -- A plan that may be played may be played with the numbers of its files.
-use Rattle.std.specs.Prelude.{ℕ, ◌≡◌, ◌<◌, ◌+◌, ◌^◌, ◌||◌, not, nat_lt, Bool, true, false, List, [], ◌∷◌, length, map, if◌then◌else◌}
+use Rattle.std.specs.Prelude.{ℕ, ◌≡◌, ◌<◌, ◌+◌, ◌^◌, ◌||◌, not, Bool, true, false, List, [], ◌∷◌, length, map, if◌then◌else◌}
 use Rattle.std.specs.List.{list_all, list_any}
 use Rattle.std.proofs.lemmas.Bool.{and_parts, and_from, not-false, or_parts as or_false}
 use Rattle.std.proofs.Common.{ap, ◌∙◌, sym, subst, refl, arith}
@@ -50,11 +50,9 @@ served-all names (l ∷ lines) h =
 
 later-named : (names : List (List ℕ)) (plan : PlanSeen) → is_later plan ≡ false → is_later (with_files names plan) ≡ false
 later-named names plan h =
-    let alone = or_false (list_any (λ l. is_join l.act) plan.setup) (nat_lt 1 (length plan.parents) || not (list_all (λ l. is_served_act l.act) plan.lines)) h in
-    let both = or_false (nat_lt 1 (length plan.parents)) (not (list_all (λ l. is_served_act l.act) plan.lines)) alone.1 in
+    let both = or_false (list_any (λ l. is_join l.act) plan.setup) (not (list_all (λ l. is_served_act l.act) plan.lines)) h in
     let all = served-all names plan.lines (not-false (list_all (λ l. is_served_act l.act) plan.lines) both.1) in
-    ap (λ (t : Bool). t || (nat_lt 1 (length plan.parents) || not (list_all (λ l. is_served_act l.act) (map (line_with_file names) plan.lines)))) alone.0
-    ∙ ap (λ (t : Bool). t || not (list_all (λ l. is_served_act l.act) (map (line_with_file names) plan.lines))) both.0 ∙ ap not all
+    ap (λ (t : Bool). t || not (list_all (λ l. is_served_act l.act) (map (line_with_file names) plan.lines))) both.0 ∙ ap not all
 
 -- the blocks nest as before
 inner-named : (names : List (List ℕ)) (a : PlanAct) → IsInner a → IsInner (act_with_file names a)

@@ -22,16 +22,16 @@ use Rattle.volume_files.specs.vnode_files.Grow.{page_count}
 use Rattle.volume_files.specs.vnode_files.Vnode.{VnodeSeen, IsSoundVnode, no_vnode}
 use Rattle.volume_files.specs.flat_model.Flat.{Flat}
 use Rattle.vm_core.specs.vm_world.DiskPlaces.{faults_in, seen_in}
-use Rattle.vm_core.specs.vm_world.Events.{IsEvent}
+use Rattle.vm_core.specs.vm_world.Events.{IsSince}
 use Rattle.vm_core.specs.vm_world.MemoryFits.{MemoryFits}
 use Rattle.vm_core.specs.vm_world.NotesFit.{NotesFit}
 use Rattle.vm_core.specs.vm_world.Opening.{no_seats}
 use Rattle.vm_core.specs.vm_world.Segments.{Spaces}
-use Rattle.vm_core.specs.vm_world.State.{KernelState, Fixed, Seats}
+use Rattle.vm_core.specs.vm_world.State.{KernelState, Fixed}
 use Rattle.vm_core.specs.vm_world.StateFits.{StateFits}
 use Rattle.vm_core.specs.vm_world.World.{World, AllTell, world_table, slot_name}
 use Rattle.vm_core.proofs.vm_world.PageNames.{index-of, page-cases, file-place, slot-place}
-use Rattle.vm_core.proofs.vm_world.StateSteps.{same-seats, size_of}
+use Rattle.vm_core.proofs.vm_world.StateSteps.{size_of}
 use Rattle.vm_core.proofs.vm_world.FlatWhole.{some-inj}
 use Rattle.vm_core.proofs.vm_world.Told.{event_law}
 use Rattle.vm_core.specs.Closing.{AreDisksOf}
@@ -55,10 +55,6 @@ pub record Closes (t : KernelState) (l : LeftSeen) : Type 0 where
   pub whole : (i : ℕ) → HasBlocks (disk_at l.disks i).1.content (disk_at l.disks i).1.size
   pub sound : All IsSoundVnode l.files.files
   pub few : length l.files.files ≤ 64
-
--- what fitted an opening fits it still
-pub fits-after : (F : Flat) (s t : KernelState) → IsEvent 0 s None t None → StateFits F s no_seats → StateFits F t no_seats
-fits-after F s t event fit = subst (StateFits F t) (same-seats no_seats 0 None refl) (event.fits F no_seats refl fit)
 
 -- A DISK THAT IS LISTED is home.
 home-there : (w : World) (spaces : Spaces) (i : ℕ) → MemoryFits (record { world = w; spaces = spaces }) → NotesFit w no_notes → i < length (disks_of w)
@@ -101,9 +97,9 @@ pub swap-serves-still : (slots : ℕ) (swap : Option DiskSeen) (F : Flat) (s : K
     → IsSwapFor slots swap → IsSwapFor slots l.swap
 swap-serves-still slots swap F s l at left serves = swap-back slots swap l.swap (subst (λ (b : BaySeen). SwapCameBack b l.swap) at left.swap) serves
 
-module _ (F : Flat) (s t : KernelState) (l : LeftSeen) (event : IsEvent 0 s None t None) (before : StateFits F s no_seats) (c : Closes t l) where
+module _ (F : Flat) (s t : KernelState) (l : LeftSeen) (since : IsSince s t no_seats) (before : StateFits F s no_seats) (c : Closes t l) where
   after : StateFits F t no_seats
-  after = fits-after F s t event before
+  after = since.fits F before
 
   abbrev old : List (ℕ × DiskSeen)
   old = disks_of t.memory.world
@@ -112,13 +108,13 @@ module _ (F : Flat) (s t : KernelState) (l : LeftSeen) (event : IsEvent 0 s None
   start = disks_of s.memory.world
 
   order-same : t.memory.world.store.order ≡ s.memory.world.store.order
-  order-same = ap (λ (f : Fixed). f.core.order) event.fixed
+  order-same = ap (λ (f : Fixed). f.core.order) since.fixed
 
   files-same : t.memory.world.files.disks ≡ s.memory.world.files.disks
-  files-same = ap (λ (f : Fixed). f.disks) event.fixed
+  files-same = ap (λ (f : Fixed). f.disks) since.fixed
 
   slots-same : length t.memory.world.anon.counts ≡ length s.memory.world.anon.counts
-  slots-same = ap (λ (f : Fixed). f.slots) event.fixed
+  slots-same = ap (λ (f : Fixed). f.slots) since.fixed
 
   long-old : length old ≡ length start
   long-old =
@@ -250,7 +246,7 @@ module _ (F : Flat) (s t : KernelState) (l : LeftSeen) (event : IsEvent 0 s None
 
   -- THE SWAP DISK has its size
   pub swap-left : SwapCameBack (bay_at s.memory.world.store.bays 8) l.swap
-  swap-left = by_swap l.swap c.swap ∙ ap (λ (x : Seats). size_of t x 8) (sym (same-seats no_seats 0 None refl)) ∙ event.sizes F no_seats refl before 8
+  swap-left = by_swap l.swap c.swap ∙ since.sizes 8
     where
       by_swap : (o : Option DiskSeen) → MatchOption o (bay_at t.memory.world.store.bays 8 ≡ missing) (λ disk. bay_at t.memory.world.store.bays 8 ≡ home disk)
           → option_map (λ (d : DiskSeen). d.size) o ≡ size_of t no_seats 8

@@ -92,10 +92,10 @@ module _ (plan : PlanSeen) (holds : Spec → Option (List (List ℕ))) (files : 
   pub started : (s : KernelState) → IsOpening s → StateFits (flat_memory s.memory s.born no_notes) s no_seats → AreHome s.memory.world.store.bays a.disks a.swap
       → s.memory.world.store.order ≡ map (λ (d : ℕ × DiskSeen). d.0) a.disks → s.memory.world.files ≡ made → s.parents ≡ plan.parents
       → HasRoomForPlan plan s.entries → length s.entries ≡ length plan.parents
-      → 1 ≤ length s.syncs → length plan.parents ≤ length s.syncs → length s.memory.world.store.frames ≡ (amounts_of plan.setup).frames
+      → length plan.parents ≤ 64 → length s.syncs ≡ length plan.parents + 1 → length s.memory.world.store.frames ≡ (amounts_of plan.setup).frames
       → length s.memory.world.hat.places ≡ (amounts_of plan.setup).translations → length s.memory.world.anon.counts ≡ (amounts_of plan.setup).slots
       → IsStarted plan (opening_flat plan (map (λ (d : ℕ × DiskSeen). (d.0, d.1.size)) a.disks) files) a.disks a.swap made s
-  started s opening fits at_home order is parents rooms count some enough frames translations slots =
+  started s opening fits at_home order is parents rooms count few seats frames translations slots =
       let with' : IsStartedWith files a.disks a.swap s = record {
         opening = opening;
         fresh = ap (λ (f : FilesSeen). f.files) is ∙ p.fresh;
@@ -110,7 +110,9 @@ module _ (plan : PlanSeen) (holds : Spec → Option (List (List ℕ))) (files : 
         follows = started-follows files a.disks a.swap s with' plan (map (λ (d : ℕ × DiskSeen). (d.0, d.1.size)) a.disks) parents slots (ap (λ (f : FilesSeen). f.disks) is ∙ p.sizes);
         parents = parents;
         rooms = rooms;
-        seats = (some, omega (arith, enough, count));
+        blocks = few;
+        count = count;
+        seats = seats;
         racked = ap (disks_in s.memory.world.store.bays) order ∙ racked a.disks at_home.each;
         swapped = at_home.swap;
         placed = is;

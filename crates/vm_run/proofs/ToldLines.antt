@@ -15,7 +15,7 @@ use Rattle.volume_files.specs.vm_script.declared.plan.PlanLine.{PlanLine}
 use Rattle.volume_files.specs.vm_script.PlanSeen.{PlanSeen}
 use Rattle.volume_files.specs.vm_script.Told.{Told, ToldFront, Spell, IsOneBlock, calls_of, own_lines, is_born, is_born_of, parent_of}
 use Rattle.volume_files.proofs.vm_script.OneBlock.{told}
-use Rattle.vm_run.specs.Asked.{is_served_act}
+use Rattle.vm_run.specs.Lines.{is_plain_act}
 use Rattle.vm_run.specs.Lines.{line_call, line_calls}
 use Rattle.vm_run.proofs.BlockLines.{AreServed, PlaysOne, served-call, named-call}
 use Rattle.vm_run.proofs.GoingOn.{no-next}
@@ -36,10 +36,10 @@ spelled (l ∷ lines) (e ∷ H) served is =
     let z : ◌≡◌ {A = List Call} (e.call ∷ map (λ (x : Entry). x.call) H) (line_call l.act ∷ line_calls lines) = is in
     let head : e.call ≡ line_call l.act = cc in
     let tail : map (λ (x : Entry). x.call) H ≡ line_calls lines = cc in
-    let P : PlanLine → Type 0 = λ k. IsTrue (is_served_act k.act) in
+    let P : PlanLine → Type 0 = λ k. IsTrue (is_plain_act k.act) in
     by_act l.act (All-head P l lines served) head (spelled lines H (All-tail P l lines served) tail)
   where
-    by_act : (a : PlanAct) → IsTrue (is_served_act a) → e.call ≡ line_call a → Spell lines H → SpellsAll (calls_of a ++ flat_map (λ (k : PlanLine). calls_of k.act) lines) (e ∷ H)
+    by_act : (a : PlanAct) → IsTrue (is_plain_act a) → e.call ≡ line_call a → Spell lines H → SpellsAll (calls_of a ++ flat_map (λ (k : PlanLine). calls_of k.act) lines) (e ∷ H)
     by_act (act.Call c) is same rest = (e ∷ [], H, refl, one-spelled c e (served-call c is) same, rest)
     by_act (act.Named name c) is same rest = (e ∷ [], H, refl, one-spelled c e (served-call c (named-call c is).0) same, rest)
     by_act (act.Write name file offset bytes) is same rest = absurd (let z : false ≡ true = is in cc)
@@ -75,8 +75,8 @@ one-block plan one served own = record {
   no_wait = λ before after wait is waits.
       let all : AreServed (before ++ wait ∷ after) = subst AreServed (sym (own-all plan own) ∙ is) served in
       let inside : length before < length (before ++ wait ∷ after) = let e = length-append before (wait ∷ after) in omega (arith, e) in
-      let here : is_served_act wait.act ≡ true = subst (λ (l : PlanLine). is_served_act l.act ≡ true) (get_or_at before wait after wait (length before) refl) (all (length before) wait inside) in
-      let z : false ≡ true = sym (ap is_served_act waits) ∙ here in cc;
+      let here : is_plain_act wait.act ≡ true = subst (λ (l : PlanLine). is_plain_act l.act ≡ true) (get_or_at before wait after wait (length before) refl) (all (length before) wait inside) in
+      let z : false ≡ true = sym (ap is_plain_act waits) ∙ here in cc;
 }
   where
     own-all : (p : PlanSeen) → All (λ (l : PlanLine). l.process ≡ 1) p.lines → own_lines p 1 ≡ p.lines
@@ -132,7 +132,7 @@ front-told plan n H plays made mine = elim plays.blocks [
       front-of plan n H (told-nothing (cut_plan plan (take n plan.lines)) H none.0 (no-entries H no_calls))
   | inr one ↦
       front-of plan n H (told-cut (cut_plan plan (take n plan.lines)) H one
-      (take-each (λ (l : PlanLine). IsTrue (is_served_act l.act)) n plan.lines plays.served) (take-each (λ (l : PlanLine). l.process ≡ 1) n plan.lines plays.own)
+      (take-each (λ (l : PlanLine). IsTrue (is_plain_act l.act)) n plan.lines plays.served) (take-each (λ (l : PlanLine). l.process ≡ 1) n plan.lines plays.own)
       (made ∙ take-map (λ (l : PlanLine). line_call l.act) n plan.lines) mine)
 ]
   where

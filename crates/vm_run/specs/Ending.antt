@@ -58,7 +58,7 @@ answer_text (answer.Verdict (verdict.First k)) = codes "trace: entry " ++ decima
 answer_text (answer.Fault f) = codes "trace: line " ++ decimal f.line ++ 10 ∷ []
 answer_text answer.Long = codes "trace: long" ++ 10 ∷ []
 
--- The script has more than one block, or a line whose call isn't served yet.
+-- The script joins disks, or has a line whose call isn't served yet.
 abbrev pub later_text : List ℕ
 later_text = codes "script: later" ++ 10 ∷ []
 

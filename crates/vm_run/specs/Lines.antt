@@ -1,7 +1,8 @@
 -- How far the lines of a plan have come. Inside: no clause of `run` cites this.
-use Rattle.std.specs.Prelude.{ℕ, suc, ◌≡◌, ◌<◌, ◌++◌, List, [], ◌∷◌, length, map, take, All, Option, Some, None, IsTrue, IsFalse, slice_index_or}
+use Rattle.std.specs.Prelude.{ℕ, suc, ◌≡◌, ◌<◌, ◌++◌, nat_le, ◌&&◌, Bool, false, List, [], ◌∷◌, length, map, take, All, Option, Some, None, IsTrue, IsFalse, slice_index_or}
 use Rattle.volume_files.specs.vm_types.declared.call.Call.{Call}
 use Rattle.volume_files.specs.vm_types.declared.call.Call.TheVariants.{Exit}
+use Rattle.volume_files.specs.vm_types.declared.call.Call.TheVariants as call
 use Rattle.volume_files.specs.vm_types.declared.call.Entry.{Entry}
 use Rattle.volume_files.specs.vm_types.declared.call.Reply.{Reply}
 use Rattle.volume_files.specs.vm_types.WellFormed.{IsWellFormed}
@@ -12,7 +13,19 @@ use Rattle.volume_files.specs.vm_script.declared.plan.PlanLine.{PlanLine}
 use Rattle.vm_core.specs.vm_world.Events.{IsEvent}
 use Rattle.vm_core.specs.vm_world.HistoryFits.{is_exit}
 use Rattle.vm_core.specs.vm_world.State.{KernelState, Caller, is_top, room_of}
+use Rattle.std.specs.List.{list_all}
+use Rattle.volume_files.specs.vm_script.PlanSeen.{PlanSeen}
 use Rattle.vm_run.specs.Asked.{is_served_act}
+
+-- A line that is served, and neither forks nor waits.
+abbrev pub is_plain_act : PlanAct → Bool
+is_plain_act (act.Call (call.Fork child)) = false
+is_plain_act act.Wait = false
+is_plain_act a = is_served_act a
+
+-- One block at most, which neither forks nor waits.
+abbrev pub is_alone : PlanSeen → Bool
+is_alone plan = nat_le (length plan.parents) 1 && list_all (λ l. is_plain_act l.act) plan.lines
 
 -- The call of a line that makes one and is done at once.
 abbrev pub line_call : PlanAct → Call
@@ -25,7 +38,7 @@ line_calls lines = map (λ l. line_call l.act) lines
 
 -- A line's call is served and well formed.
 pub record MayBeMade (l : PlanLine) : Type 0 where
-  pub served : IsTrue (is_served_act l.act)
+  pub served : IsTrue (is_plain_act l.act)
   pub formed : IsWellFormed (line_call l.act)
 
 -- Lines of one process, which may be made one after another: the last alone may be an Exit.

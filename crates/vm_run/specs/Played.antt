@@ -1,5 +1,5 @@
 -- A kernel that is started, and what it leaves once its processes ran. Inside: no clause of `run` cites this.
-use Rattle.std.specs.Prelude.{ℕ, ◌≡◌, ◌<◌, ◌≤◌, ◌^◌, ◌⊎◌, List, false, length, map, All, Some, None, IfNone, IfSome, Option, option_map, slice_get, slice_index_or}
+use Rattle.std.specs.Prelude.{ℕ, suc, [], ◌∷◌, ◌≡◌, ◌<◌, ◌≤◌, ◌^◌, ◌⊎◌, ◌+◌, List, Bool, IsTrue, false, length, map, sum_by, All, Some, None, IfNone, IfSome, Option, option_map, slice_get, slice_index_or}
 use Rattle.volume_files.specs.vm_types.declared.call.Entry.{Entry}
 use Rattle.volume_files.specs.vm_types.declared.call.Reply.TheVariants.{Io}
 use Rattle.volume_files.specs.vm_types.WellFormed.{IsWellFormed}
@@ -15,14 +15,15 @@ use Rattle.vm_core.specs.declared.finish.Finished.{Finished}
 use Rattle.vm_core.specs.Finish.{HistorySeen, disks_of}
 use Rattle.volume_files.specs.vm_script.Counts.{entry_count}
 use Rattle.volume_files.specs.vm_script.PlanSeen.{PlanSeen}
-use Rattle.volume_files.specs.vm_script.Told.{own_lines}
+use Rattle.volume_files.specs.vm_script.Told.{Told, ToldFront, own_lines}
 use Rattle.volume_files.specs.flat_model.Shapes.{RefusesAsDue}
 use Rattle.vm_core.specs.vm_world.DiskPlaces.{seen_in}
-use Rattle.vm_core.specs.vm_world.Events.{FollowsHistory}
+use Rattle.vm_core.specs.vm_world.Events.{FollowsHistory, IsSince}
 use Rattle.vm_core.specs.vm_world.Opening.{IsOpening, no_seats}
 use Rattle.vm_core.specs.vm_world.State.{KernelState, room_of, mode_of}
 use Rattle.vm_core.specs.vm_world.StateFits.{StateFits}
 use Rattle.volume_files.specs.vm_script.Sound.{IsSoundPlan}
+use Rattle.vm_kernel.specs.declared.starting.Room.{Room}
 use Rattle.vm_run.specs.Asked.{is_later}
 use Rattle.volume_files.specs.Attached.{bare_disks}
 use Rattle.volume_files.specs.Closed.{StoreFiles, infos_in_flat, flat_bytes}
@@ -32,9 +33,15 @@ use Rattle.vm_core.specs.page_store.Notes.{no_notes}
 use Rattle.vm_core.specs.vm_world.World.{AllTell}
 use Rattle.volume_files.specs.vm_script.Rules.{amounts_of}
 
--- Each process may make as many entries as its lines need.
-abbrev pub HasRoomForPlan : PlanSeen → List ℕ → Type 0
-HasRoomForPlan plan entries = (p : ℕ) → entry_count (own_lines plan p) ≤ room_of entries p
+-- Each process may make as many entries as its lines need, and all together not many.
+pub record HasRoomForPlan (plan : PlanSeen) (entries : List ℕ) : Type 0 where
+  pub each : (p : ℕ) → entry_count (own_lines plan p) ≤ room_of entries p
+  pub all : sum_by (λ n. n) entries ≤ 1048576
+
+-- Whom a kernel's callers are for: the processes from the k-th on, with the most entries of each, and behind them the clock, which makes none.
+abbrev pub rooms_from : ℕ → List ℕ → List Room
+rooms_from k [] = record { process = 0; entries = 0 } ∷ []
+rooms_from k (most ∷ entries) = record { process = suc k; entries = most } ∷ rooms_from (suc k) entries
 
 -- A KERNEL AT THE START: nothing happened yet; it fits this flat memory, and follows its history from there whatever disks tell; it has the plan's processes, frames, translations and slots, these disks, the
 -- swap disk and the files.
@@ -44,7 +51,9 @@ pub record IsStarted (plan : PlanSeen) (F : Flat) (disks : List (ℕ × DiskSeen
   pub follows : FollowsHistory F s
   pub parents : s.parents ≡ plan.parents
   pub rooms : HasRoomForPlan plan s.entries
-  pub seats : (1 ≤ length s.syncs) × (length s.entries ≤ length s.syncs)
+  pub blocks : length plan.parents ≤ 64
+  pub count : length s.entries ≡ length plan.parents
+  pub seats : length s.syncs ≡ length plan.parents + 1
   pub racked : disks_of s.memory.world ≡ disks
   pub swapped : bay_at s.memory.world.store.bays 8 ≡ bay_of swap
   pub placed : s.memory.world.files ≡ files
@@ -53,6 +62,15 @@ pub record IsStarted (plan : PlanSeen) (F : Flat) (disks : List (ℕ × DiskSeen
   pub slots : length s.memory.world.anon.counts ≡ (amounts_of plan.setup).slots
   pub well : LieWell files
   pub have : HaveDisks files disks
+
+-- THE PROCESSES PLAYED THEIR PARTS from one state to another, in which no seat has anything outside: the other follows from the first by events alone, and
+-- its history tells a front of each block's lines, and where `whole`, all of them.
+pub record HasPlayed (plan : PlanSeen) (s t : KernelState) (whole : Bool) : Type 0 where
+  pub since : IsSince s t no_seats
+  pub told : IsTrue whole → Told plan t.history
+  pub front : ToldFront plan t.history
+  pub formed : All (λ (e : Entry). IsWellFormed e.call) t.history
+  pub few : length t.history < 2 ^ 32
 
 -- What a kernel left.
 pub record LeftSeen : Type 0 where
@@ -109,7 +127,7 @@ pub record KernelLeaves (F : Flat) (s : KernelState) (l : LeftSeen) : Type 0 whe
   pub swap : SwapCameBack (bay_at s.memory.world.store.bays 8) l.swap
   pub tells : HaveTold (bare_disks l.disks) l.swap → AllTell s.memory.world no_notes
 
--- A plan whose lines the kernel can make one after another: one block at most, each line a call that is served and well formed.
+-- A plan whose lines the kernel can make: each a call that is served and well formed, in blocks that nest.
 pub record IsPlayable (plan : PlanSeen) : Type 0 where
   pub now : is_later plan ≡ false
   pub sound : IsSoundPlan plan

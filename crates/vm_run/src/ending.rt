@@ -36,7 +36,7 @@ pub enum Ending {
     Usage,
     /// The script isn't in the grammar.
     NoScript(ScriptFault),
-    /// The script has more than one block, or a line whose call isn't served yet.
+    /// The script joins disks, or has a line whose call isn't served yet.
     Later,
     /// A set-up rule is broken.
     Refused(Refusal),

@@ -3,10 +3,9 @@ ghost use Rattle.std.specs.Prelude.{◌≡◌, ◌<◌, ◌≤◌, ℕ, suc, [],
 ghost use Rattle.vm_core.specs.Finish.{FitsStill};
 ghost use Rattle.vm_core.specs.vm_world.Events.{IsEvent};
 ghost use Rattle.vm_core.specs.vm_world.State.{is_top, room_of};
-ghost use Rattle.vm_run.specs.Asked.{is_served_act};
-ghost use Rattle.vm_run.specs.Lines.{line_call, MayBeMade, AreLines, MayGoOn, HasOneMore, HasCome};
+ghost use Rattle.vm_run.specs.Lines.{is_plain_act, line_call, MayBeMade, AreLines, MayGoOn, HasOneMore, HasCome};
 
-use crate::making::{make_call, move_clock};
+use crate::making::make_call;
 use std::alloc::AllocError;
 use std::sync::Wait;
 use vm_core::VmState;
@@ -14,7 +13,7 @@ use volume_files::{Call, Disk, PlanAct, PlanLine};
 
 // The call of a line that makes one.
 fn call_of(act: &PlanAct) -> &Call
-    requires { IsTrue (is_served_act act.now) }
+    requires { IsTrue (is_plain_act act.now) }
     ensures { result.now ≡ line_call act.now }
 {
     match act {
@@ -24,7 +23,7 @@ fn call_of(act: &PlanAct) -> &Call
     }
 }
 
-// Makes the call of a line, and then one move of the clock.
+// Makes the call of a line.
 fn make_line<D: Disk>(
     rt: &impl Wait,
     state: &mut VmState<D>,
@@ -38,12 +37,10 @@ fn make_line<D: Disk>(
     ensures made { OnOk result (HasOneMore state.old state.new 1 (line_call line.now.act)) }
     ensures err { OnErr result (state.new.history ≡ state.old.history) }
 {
-    make_call(rt, state, call_of(&line.act))?;
-    move_clock(state);
-    Ok(())
+    make_call(rt, state, call_of(&line.act))
 }
 
-/// Makes lines of process 1, each followed by a move of the clock. The error is want of memory: no line behind is made then.
+/// Makes lines of process 1. The error is want of memory: no line behind is made then.
 pub fn make_lines<D: Disk>(
     rt: &impl Wait,
     state: &mut VmState<D>,

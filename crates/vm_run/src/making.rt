@@ -60,15 +60,3 @@ pub fn make_call<D: Disk>(
     }
     unreachable!()
 }
-
-/// One move of the clock, with its transfer.
-pub fn move_clock<D: Disk>(state: &mut VmState<D>)
-    requires still { FitsStill state.old }
-    requires seated { 0 < length state.old.syncs }
-    ensures event { IsEvent 0 state.old None state.new None }
-    ensures same { state.new.history ≡ state.old.history }
-{
-    if let Some(plan) = state.clock(0) {
-        let _ = transfer(state, plan, None);
-    }
-}

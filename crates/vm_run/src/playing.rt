@@ -1,15 +1,22 @@
 //! The processes run.
-ghost use Rattle.std.specs.Prelude.{ℕ, ◌≡◌, ◌≤◌, All, List, Option, IsTrue, length};
+ghost use Rattle.std.specs.Prelude.{ℕ, ◌≡◌, ◌≤◌, All, List, Option, IsTrue, true, length};
 ghost use Rattle.volume_files.specs.block_device.DiskSeen.{DiskSeen};
 ghost use Rattle.volume_files.specs.flat_model.Flat.{Flat};
 ghost use Rattle.volume_files.specs.vm_script.Told.{Told, ToldFront};
 ghost use Rattle.volume_files.specs.vnode_files.Files.{FilesSeen};
 ghost use Rattle.volume_files.specs.vnode_files.Vnode.{IsSoundVnode};
-ghost use Rattle.vm_run.specs.Played.{IsStarted, KernelLeaves, left_seen, IsPlayable};
+ghost use Rattle.vm_run.specs.Lines.{is_alone};
+ghost use Rattle.vm_run.specs.Played.{IsStarted, KernelLeaves, HasPlayed, left_seen, IsPlayable, rooms_from};
 
 use crate::lines::make_lines;
+use crate::reading::is_alone;
+use block_runs::{closed_law, closing_law, run_all};
+use std::alloc::Global;
 use std::sync::Wait;
+use std::thread::Threads;
 use vm_core::{Finished, VmState};
+use vm_kernel::kernel::VmKernel;
+use vm_kernel::starting::Room;
 use volume_files::{Disk, Files, Plan};
 
 /// What is left of a kernel once its processes ran.
@@ -30,14 +37,88 @@ fn look_at(files: &Files)
     }
 }
 
-/// Makes the lines of the one process, each followed by a move of the clock with its transfer, stops where memory lacks, and
-/// closes the kernel.
-///
-/// Takes no memory but for the mapping calls. Time: that of the calls, and of the pages that are modified at the end.
-pub fn play<D: Disk>(rt: &impl Wait, state: VmState<D>, plan: &Plan) -> Played<D>
+// Makes the lines of one block, on this very thread. False where memory lacked.
+fn play_alone<D: Disk>(rt: &impl Wait, state: VmState<D>, plan: &Plan) -> (VmState<D>, bool)
+    requires playable { IsPlayable plan.now }
+    requires alone { is_alone plan.now ≡ true }
+    requires started { (F : Flat) × (disks : List (ℕ × DiskSeen)) × (swap : Option DiskSeen)
+        × (files : FilesSeen) × IsStarted plan.now F disks swap files state }
+    ensures { HasPlayed plan.now state result.0 result.1 }
+{
+    let mut state = state;
+    let is_whole = make_lines(rt, &mut state, plan.lines()).is_ok();
+    (state, is_whole)
+}
+
+// Runs all blocks, and so many turns of the pageout daemon beside them. False where memory lacked.
+fn play_blocks<R: Threads + Wait + Sync, D: Disk + Send>(
+    rt: &R,
+    alloc: Global,
+    state: VmState<D>,
+    rooms: &[Room],
+    plan: &Plan,
+    turns: u32,
+) -> (VmState<D>, bool)
     requires playable { IsPlayable plan.now }
     requires started { (F : Flat) × (disks : List (ℕ × DiskSeen)) × (swap : Option DiskSeen)
         × (files : FilesSeen) × IsStarted plan.now F disks swap files state }
+    requires rooms { rooms.now ≡ rooms_from 0 state.entries }
+    ensures { HasPlayed plan.now state result.0 result.1 }
+{
+    let (kernel, mut row) = match VmKernel::start(alloc, state, rooms) {
+        Ok(started) => started,
+        Err(state) => return (state, false),
+    };
+    let Some(mut daemon) = row.pop() else {
+        unreachable!()
+    };
+    let blocks = row.as_mut_slice();
+    let is_whole = run_all(rt, &kernel, plan.lines(), blocks, &mut daemon, turns);
+    row.push_reserved(daemon);
+    closed_law();
+    closing_law();
+    (kernel.close(row), is_whole)
+}
+
+// Runs the processes, and so many turns of the pageout daemon beside them. False where memory lacked.
+fn play_plan<R: Threads + Wait + Sync, D: Disk + Send>(
+    rt: &R,
+    alloc: Global,
+    state: VmState<D>,
+    rooms: &[Room],
+    plan: &Plan,
+    turns: u32,
+) -> (VmState<D>, bool)
+    requires playable { IsPlayable plan.now }
+    requires started { (F : Flat) × (disks : List (ℕ × DiskSeen)) × (swap : Option DiskSeen)
+        × (files : FilesSeen) × IsStarted plan.now F disks swap files state }
+    requires rooms { rooms.now ≡ rooms_from 0 state.entries }
+    ensures { HasPlayed plan.now state result.0 result.1 }
+{
+    if turns == 0 && is_alone(plan) {
+        play_alone(rt, state, plan)
+    } else {
+        play_blocks(rt, alloc, state, rooms, plan, turns)
+    }
+}
+
+/// Runs the processes, and so many turns of the pageout daemon beside them, and closes the kernel. Where memory lacks, each process
+/// stops before its next line.
+///
+/// One block that neither forks nor waits starts no thread where the daemon makes no turn. Takes memory for the kernel's lock and for
+/// the calls that do. Time: that of the calls, and of the pages that are modified at the end.
+pub fn play<R: Threads + Wait + Sync, D: Disk + Send>(
+    rt: &R,
+    alloc: Global,
+    state: VmState<D>,
+    rooms: &[Room],
+    plan: &Plan,
+    turns: u32,
+) -> Played<D>
+    requires playable { IsPlayable plan.now }
+    requires started { (F : Flat) × (disks : List (ℕ × DiskSeen)) × (swap : Option DiskSeen)
+        × (files : FilesSeen) × IsStarted plan.now F disks swap files state }
+    requires rooms { rooms.now ≡ rooms_from 0 state.entries }
     // All lines were made, once and in order; or a front of them.
     ensures whole { IsTrue result.is_whole → Told plan.now result.finished.history.entries }
     ensures front { ToldFront plan.now result.finished.history.entries }
@@ -47,8 +128,7 @@ pub fn play<D: Disk>(rt: &impl Wait, state: VmState<D>, plan: &Plan) -> Played<D
         → IsStarted plan.now F disks swap files state
         → KernelLeaves F state (left_seen D.seen result.finished) }
 {
-    let mut state = state;
-    let is_whole = make_lines(rt, &mut state, plan.lines()).is_ok();
+    let (state, is_whole) = play_plan(rt, alloc, state, rooms, plan, turns);
     let finished = state.finish();
     look_at(&finished.files);
     Played { finished, is_whole }

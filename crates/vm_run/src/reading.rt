@@ -6,6 +6,7 @@ ghost use Rattle.volume_files.specs.vm_script.Plans.{plan_of};
 ghost use Rattle.volume_files.specs.vm_script.Rules.{is_join};
 ghost use Rattle.vm_run.specs.Asked as asked;
 ghost use Rattle.vm_run.specs.Course.{AskEnds};
+ghost use Rattle.vm_run.specs.Lines as alone;
 ghost use Rattle.vm_run.specs.Reading.{IsAnswer, IsSpelled, SaysScript, ScriptStops, SourceStops, TakesPlan, TextStops, UnlessUnread};
 
 use crate::checking::check_source;
@@ -44,6 +45,7 @@ fn is_served_call(call: &Call) -> bool
         Call::Unmap { .. } => true,
         Call::Protect { .. } => true,
         Call::Sync { .. } => true,
+        Call::Fork { .. } => true,
         Call::Exit => true,
         _ => false,
     }
@@ -55,7 +57,8 @@ fn is_served_act(act: &PlanAct) -> bool
     match act {
         PlanAct::Call(call) => is_served_call(call),
         PlanAct::Named { call, .. } => is_served_named(call),
-        _ => false,
+        PlanAct::Wait => true,
+        PlanAct::Write { .. } => false,
     }
 }
 
@@ -71,11 +74,34 @@ fn joins_disks(setup: &[SetupLine]) -> bool
     setup.iter().any(|l| matches!(l.act, SetupAct::Join { .. }))
 }
 
-// The script joins disks, or has more than one block, or a line whose call isn't served yet.
+// The script joins disks, or has a line whose call isn't served yet.
 fn is_later(plan: &Plan) -> bool
     ensures { result ≡ asked.is_later plan.now }
 {
-    joins_disks(plan.setup()) || plan.parents().len() > 1 || !are_served(plan.lines())
+    joins_disks(plan.setup()) || !are_served(plan.lines())
+}
+
+fn is_plain_act(act: &PlanAct) -> bool
+    ensures { result ≡ alone.is_plain_act act.now }
+{
+    match act {
+        PlanAct::Call(Call::Fork { .. }) => false,
+        PlanAct::Wait => false,
+        _ => is_served_act(act),
+    }
+}
+
+fn are_plain(lines: &[PlanLine]) -> bool
+    ensures { result ≡ list_all (λ l. alone.is_plain_act l.act) lines.now }
+{
+    lines.iter().all(|l| is_plain_act(&l.act))
+}
+
+/// Whether the plan has one block at most, which neither forks nor waits. The time is that of the lines.
+pub fn is_alone(plan: &Plan) -> bool
+    ensures { result ≡ alone.is_alone plan.now }
+{
+    plan.parents().len() <= 1 && are_plain(plan.lines())
 }
 
 // The bytes of the source, or a front of them that is too long for a script.

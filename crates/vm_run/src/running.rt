@@ -19,11 +19,12 @@ use crate::ready::{Ready, make_ready};
 use crate::starting::{Started, start};
 use std::alloc::Global;
 use std::sync::Wait;
+use std::thread::Threads;
 use volume_files::{Disk, Rack, Sink, Source};
 
 /// Runs a script: its disks are attached, its files placed, its processes run, its files closed, and its report written.
-pub fn run<S: Source, K: Sink, R: Rack>(
-    rt: &impl Wait,
+pub fn run<T: Threads + Wait + Sync, S: Source, K: Sink, R: Rack>(
+    rt: &T,
     alloc: Global,
     words: &[String],
     script: &mut S,
@@ -48,8 +49,8 @@ pub fn run<S: Source, K: Sink, R: Rack>(
 }
 
 // Runs a script up to its last line.
-fn course<S: Source, K: Sink, R: Rack>(
-    rt: &impl Wait,
+fn course<T: Threads + Wait + Sync, S: Source, K: Sink, R: Rack>(
+    rt: &T,
     alloc: Global,
     words: &[String],
     script: &mut S,
@@ -76,8 +77,8 @@ fn course<S: Source, K: Sink, R: Rack>(
 }
 
 // Runs the processes of a run that is ready, and ends it.
-fn run_ready<D: Disk, K: Sink>(
-    rt: &impl Wait,
+fn run_ready<T: Threads + Wait + Sync, D: Disk + Send, K: Sink>(
+    rt: &T,
     alloc: Global,
     ready: Ready<D>,
     out: &mut K,
@@ -107,8 +108,8 @@ fn run_ready<D: Disk, K: Sink>(
         placed,
     } = ready;
     match start(alloc, &plan, placed) {
-        Ok(Started { state, back }) => {
-            let played = play(rt, state, &plan);
+        Ok(Started { state, rooms, back }) => {
+            let played = play(rt, alloc, state, &rooms, &plan, options.pageout);
             end_run(alloc, &options, &plan, played, back, out)
         }
         Err(stop) => stop,

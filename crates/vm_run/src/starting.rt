@@ -7,39 +7,67 @@ ghost use Rattle.volume_files.specs.vm_script.Rules.{broken_rule};
 ghost use Rattle.volume_files.specs.vm_script.Sound.{IsSoundPlan};
 ghost use Rattle.volume_files.specs.Attached.{ArePlaced, HasRooms, attached_seen, bare_disks};
 ghost use Rattle.volume_files.specs.Opened.{OpenedFile, opening_flat};
-ghost use Rattle.vm_run.specs.Played.{IsStarted, HasRoomForPlan};
+ghost use Rattle.vm_run.specs.Played.{IsStarted, HasRoomForPlan, rooms_from};
 ghost use Rattle.vm_run.specs.declared.ending.Ending.TheVariants.{Memory};
 
 use crate::ending::{Ending, Stop};
 use crate::entry_rooms::entry_rooms;
 use std::alloc::{AllocError, Global};
 use vm_core::{KernelHistory, Setup, VmState};
+use vm_kernel::starting::Room;
 use volume_files::{Attached, Disk, Placed, Plan, Unopened, amounts_of, into_swap};
 
-/// A kernel that was started, and room for its disks to be handed back.
+/// A state to run processes on, whom its callers are for, and room for its disks to be handed back.
 #[derive(Drop)]
 pub struct Started<D: Disk> {
     pub state: VmState<D>,
+    /// Those of the processes in their order, and behind them that of the pageout daemon.
+    pub rooms: Vec<Room>,
     pub back: Vec<D>,
 }
 
-// Of each process its parent, and how many entries it may make.
+// Of each process its parent, and how many entries it may make; and whom the kernel's callers are for.
 #[derive(Drop)]
 struct Processes {
     parents: Vec<u32>,
     entries: Vec<u32>,
+    rooms: Vec<Room>,
+}
+
+// The rooms of the processes, in their order, and behind them that of the pageout daemon, which makes no entry.
+fn rooms_of(alloc: Global, entries: &[u32]) -> Result<Vec<Room>, AllocError>
+    requires few { length entries.now ≤ 64 }
+    ensures { IfOk result (λ rooms. rooms.items ≡ rooms_from 0 entries.now) }
+{
+    let mut rooms = Vec::with_capacity(alloc, entries.len() + 1)?;
+    for place in 0..entries.len() {
+        rooms.push_reserved(Room {
+            process: place as u32 + 1,
+            entries: entries[place],
+        });
+    }
+    rooms.push_reserved(Room {
+        process: 0,
+        entries: 0,
+    });
+    Ok(rooms)
 }
 
 fn take_processes(alloc: Global, plan: &Plan) -> Result<Processes, AllocError>
     requires rules { broken_rule plan.now ≡ None }
     requires sound { IsSoundPlan plan.now }
+    // The plan's processes, with room for its entries.
     ensures parents { IfOk result (λ p. p.parents.items ≡ plan.now.parents) }
     ensures entries { IfOk result (λ p. length p.entries.items ≡ length plan.now.parents) }
-    ensures rooms { IfOk result (λ p. HasRoomForPlan plan.now p.entries.items) }
+    ensures entries_of_plan { IfOk result (λ p. HasRoomForPlan plan.now p.entries.items) }
+    // Whom the callers are for.
+    ensures rooms { IfOk result (λ p. p.rooms.items ≡ rooms_from 0 p.entries.items) }
 {
+    let entries = entry_rooms(alloc, plan)?;
     Ok(Processes {
         parents: Vec::from_slice(alloc, plan.parents())?,
-        entries: entry_rooms(alloc, plan)?,
+        rooms: rooms_of(alloc, &entries)?,
+        entries,
     })
 }
 
@@ -97,7 +125,7 @@ pub fn start<D: Disk>(alloc: Global, plan: &Plan, placed: Placed<D>) -> Result<S
     requires rules { broken_rule plan.now ≡ None }
     requires sound { IsSoundPlan plan.now }
     requires rooms { HasRooms placed.attached }
-    // Ok: the kernel at the start, and room for its disks to be handed back.
+    // Ok: the kernel at the start, whom its callers are for, and room for its disks to be handed back.
     ensures ok { (holds : Spec → Option (List (List ℕ))) (files : List OpenedFile)
         → ArePlaced plan.now holds files (attached_seen D.seen placed.attached) placed.files
         → IfOk result (λ s. IsStarted plan.now (opening_flat plan.now
@@ -105,6 +133,7 @@ pub fn start<D: Disk>(alloc: Global, plan: &Plan, placed: Placed<D>) -> Result<S
         (attached_seen D.seen placed.attached).disks) files)
         (attached_seen D.seen placed.attached).disks (attached_seen D.seen placed.attached).swap
         placed.files s.state) }
+    ensures rooms { IfOk result (λ s. s.rooms.items ≡ rooms_from 0 s.state.entries) }
     ensures back { IfOk result (λ s. s.back.items ≡ []) }
     ensures room { IfOk result (λ s. length placed.attached.disks.items ≤ vec_capacity s.back) }
     // An error: nothing happened, and all disks are handed back.
@@ -129,7 +158,7 @@ pub fn start<D: Disk>(alloc: Global, plan: &Plan, placed: Placed<D>) -> Result<S
         return Err(without_memory(disks, swap, back));
     };
     let amounts = amounts_of(plan.setup());
-    let seats = plan.parents().len().max(1) as u32;
+    let seats = plan.parents().len() as u32 + 1;
     let setup = Setup {
         frames: amounts.frames,
         translations: amounts.translations,
@@ -142,7 +171,11 @@ pub fn start<D: Disk>(alloc: Global, plan: &Plan, placed: Placed<D>) -> Result<S
         seats,
     };
     match VmState::start(alloc, setup) {
-        Ok(state) => Ok(Started { state, back }),
+        Ok(state) => Ok(Started {
+            state,
+            rooms: processes.rooms,
+            back,
+        }),
         Err(setup) => Err(without_memory(setup.disks, setup.swap, back)),
     }
 }

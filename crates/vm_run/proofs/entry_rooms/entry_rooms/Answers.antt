@@ -1,8 +1,8 @@
 use Rattle.std.proofs.Common.{◌∙◌, List, ap, length, length-set, subst, sym, take, take_all}
 use Rattle.volume_files.specs.vm_script.declared.plan.PlanLine.{PlanLine}
 use Rattle.volume_files.specs.vm_script.Counts.{entry_count, parts}
-use Rattle.std.specs.Prelude.{◌≤◌, ◌+◌, ◌-◌, slice_index}
-use Rattle.vm_run.proofs.EntryRooms.{HaveRooms, item-owned, room-fits, rooms-more, rooms-all}
+use Rattle.std.specs.Prelude.{◌≤◌, ◌+◌, ◌-◌, slice_index, sum_by}
+use Rattle.vm_run.proofs.EntryRooms.{HaveRooms, item-owned, room-fits, rooms-more, rooms-all, total-more}
 use Rattle.vm_run.proofs.entry_rooms.entry_rooms.Goals as goal
 
 pub add_line-requires-clause-first : goal.add_line-requires-clause-first
@@ -32,9 +32,14 @@ loop-line-preserved c =
           (rooms-more c.lines-lines.result.now rooms c.loop-line.line-index l c.loop-line-test.true (sym c.line-item.is)
           (item-owned c.args.plan.now c.lines-lines.result.now rooms c.loop-line.line-index l c.requires.nests c.lines-lines.ensures
           c.loop-line.invariant.count c.loop-line-test.true c.line-item.is) c.loop-line.invariant.rooms);
+      total = ap (sum_by (λ n. n)) c.add_line.ensures
+          ∙ total-more c.lines-lines.result.now rooms c.loop-line.line-index l c.loop-line-test.true (sym c.line-item.is)
+          (item-owned c.args.plan.now c.lines-lines.result.now rooms c.loop-line.line-index l c.requires.nests c.lines-lines.ensures
+          c.loop-line.invariant.count c.loop-line-test.true c.line-item.is) c.loop-line.invariant.total;
     }
 
 pub returns-clause-rooms : goal.returns-clause-rooms
 returns-clause-rooms c =
     let all = take_all c.loop-line.line-index c.lines-lines.result.now c.loop-line-test.false ∙ c.lines-lines.ensures in
     rooms-all c.args.plan.now c.loop-line.rooms.items c.requires.nests c.loop-line.invariant.count (subst (λ (l : List PlanLine). HaveRooms l c.loop-line.rooms.items) all c.loop-line.invariant.rooms)
+    (c.loop-line.invariant.total ∙ ap entry_count all) c.requires.few

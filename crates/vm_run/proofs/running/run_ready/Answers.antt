@@ -24,11 +24,14 @@ start-requires-clause-placed g c =
     )
 
 pub play-played-requires-clause-started : goal.play-played-requires-clause-started
-play-played-requires-clause-started g c =
+play-played-requires-clause-started g c = λ lifetimes outlives.
     let q = c.requires.ready in
     let a = attached_seen g.D.Disk.seen c.args.ready.placed.attached in
     let placed = placed-as c.args.ready.plan q.2.plan q.0.holds q.3 a c.args.ready.placed.files q.5.numbered q.5.placed in
-    (opening_flat c.args.ready.plan (disk_sizes a.disks) q.3, a.disks, a.swap, c.args.ready.placed.files, rw c.in-Ok.field-0-is at (c.in-Ok.ensures.ok q.0.holds q.3 placed))
+    (opening_flat c.args.ready.plan (disk_sizes a.disks) q.3, a.disks, a.swap, c.args.ready.placed.files, c.in-Ok.ensures.ok q.0.holds q.3 placed)
+
+pub play-played-requires-clause-rooms : goal.play-played-requires-clause-rooms
+play-played-requires-clause-rooms g c = λ lifetimes outlives. c.deref.ensures.value ∙ c.in-Ok.ensures.rooms
 
 -- the kernel that was started, and what it left
 started : (g : Given.Over) (c : goal.After-end_run-arg-1 g) → IsStarted c.args.ready.plan

@@ -74,13 +74,12 @@ returns-in-Ok-start-clause-ok g c = λ holds files p.
     let at_home = subst (AreHome s.memory.world.store.bays (map (numbered_seen seen) at.disks.items)) swap
     (subst (λ (l : List (ℕ × DiskSeen)). AreHome s.memory.world.store.bays l (option_map seen c.into_swap-swap.result)) disks m.disks) in
     let seats = m.seats in
-    let most = c.max-seats.ensures in
     let parents = ap (λ (l : List ℕ). length l) c.parents.ensures in
     let amounts = c.amounts_of-amounts.ensures ∙ ap amounts_of c.setup.ensures in
     started c.args.plan.now holds files (attached_seen seen at) c.args.placed.files p s c.in-Ok-start.ensures.opening c.in-Ok-start.ensures.fits at_home
     (m.order ∙ ap (λ (l : List (ℕ × _)). numbers_of l) c.number_disks-disks.ensures ∙ numbers-are seen at.disks.items)
-    m.files (m.parents ∙ c.in-Ok.ensures.parents) (subst (HasRoomForPlan c.args.plan.now) (sym m.entries) c.in-Ok.ensures.rooms) (ap (λ (l : List ℕ). length l) m.entries ∙ c.in-Ok.ensures.entries)
-    (omega (arith, seats, most)) (omega (arith, seats, most, parents)) (m.frames ∙ ap (λ a. a.frames) amounts) (m.translations ∙ ap (λ a. a.translations) amounts)
+    m.files (m.parents ∙ c.in-Ok.ensures.parents) (subst (HasRoomForPlan c.args.plan.now) (sym m.entries) c.in-Ok.ensures.entries_of_plan) (ap (λ (l : List ℕ). length l) m.entries ∙ c.in-Ok.ensures.entries)
+    (right-amounts c.args.plan.now c.requires.rules).processes (omega (arith, seats, parents)) (m.frames ∙ ap (λ a. a.frames) amounts) (m.translations ∙ ap (λ a. a.translations) amounts)
     (m.slots ∙ ap (λ a. a.slots) amounts)
 
 pub returns-clause-same : goal.returns-clause-same
