@@ -14,6 +14,8 @@ mod mapping_tests;
 #[cfg(test)]
 mod random_tests;
 #[cfg(test)]
+mod tree_tests;
+#[cfg(test)]
 mod trial;
 #[cfg(test)]
 mod word_tests;

@@ -147,7 +147,8 @@ fn begins_behind(entry: &Entry, entries: usize) -> bool {
     }
 }
 
-fn replays(flat: &mut FlatState, entries: &[Entry]) -> Result<bool, AllocError> {
+/// Whether the entries are steps of flat memory, one behind the other, and each Sync began where it stands.
+pub(crate) fn replays(flat: &mut FlatState, entries: &[Entry]) -> Result<bool, AllocError> {
     for (place, entry) in entries.iter().enumerate() {
         if !begins_behind(entry, place) || !acts(flat, entry)? {
             return Ok(false);
