@@ -164,16 +164,13 @@ fn a_trace_is_checked_in_place_of_a_script(rt: HostRuntime) -> Result<(), Fail> 
 
 #[test]
 fn a_verdict_that_is_not_written_is_status_6(rt: HostRuntime) -> Result<(), Fail> {
-    let fails = Fails { sink: 2, ..NEVER };
-    let legal = run_trial(&rt, rt.alloc(), "--check", SMALL, &fails)?;
-    assert_eq!(rt;
-        (legal.status, legal.text.as_slice()),
-        (6, b"trace".as_slice())
-    );
-    let faulty = run_trial(&rt, rt.alloc(), "--check", CUT_OFF, &fails)?;
-    assert_eq!(rt;
-        (faulty.status, faulty.text.as_slice()),
-        (3, b"trace".as_slice())
-    );
+    let cases: [(&[u8], u8); 2] = [(SMALL, 6), (CUT_OFF, 3)];
+    let text: &[u8] = b"trace";
+    for (trace, status) in cases {
+        let fails = Fails { sink: 2, ..NEVER };
+        let left = run_trial(&rt, rt.alloc(), "--check", trace, &fails)?;
+        assert_eq!(rt; left.status, status);
+        assert_eq!(rt; left.text.as_slice(), text);
+    }
     Ok(())
 }
