@@ -1,6 +1,6 @@
 -- Sums of the counts of two disks.
-use Rattle.std.proofs.Common.{ℕ, ◌≤◌, arith}
-use Rattle.std.specs.Prelude.{Result}
+use Rattle.std.proofs.Common.{ℕ, ◌≤◌, ◌≡◌, Bool, true, false, ap, refl, arith}
+use Rattle.std.specs.Prelude.{◌&&◌, Result, if◌then◌else◌}
 use Rattle.std.proofs.lemmas.Result.{on_err_weaker}
 use Rattle.block_device.specs.Counts.{HasRisen, HasCause}
 use Rattle.block_device.specs.Joins.{count_sum}
@@ -18,6 +18,17 @@ second_risen m n k l later risen = omega (arith, later, risen)
 
 pub sums_risen : (m n k l : ℕ) → HasRisen m n → HasRisen k l → HasRisen (count_sum m k) (count_sum n l)
 sums_risen m n k l one other = omega (arith, one, other)
+
+-- Where one tells as many failures as before, both do.
+pub first_told : (e f : Bool) (m n k : ℕ) → (if e then n else 0) ≡ (if e then m else 0) → (if e && f then count_sum n k else 0) ≡ (if e && f then count_sum m k else 0)
+first_told true true m n k same = ap (λ (x : ℕ). count_sum x k) same
+first_told true false m n k same = refl
+first_told false f m n k same = refl
+
+pub second_told : (e f : Bool) (m n k : ℕ) → (if f then n else 0) ≡ (if f then m else 0) → (if e && f then count_sum k n else 0) ≡ (if e && f then count_sum k m else 0)
+second_told true true m n k same = ap (count_sum k) same
+second_told true false m n k same = refl
+second_told false f m n k same = refl
 
 -- What the first counts is the cause, and the second didn't fall.
 pub first_cause : {T E : Type 0} (m n k l : ℕ) (r : Result T E) → HasCause m n r → k ≤ l → HasCause (count_sum m k) (count_sum n l) r

@@ -1,14 +1,29 @@
 -- What contracts see of a disk, and what its two transfers do. Public clauses cite this.
-use Rattle.std.specs.Prelude.{ℕ, ◌≡◌, ◌<◌, List, [], length, slice_index, slice_index_or, slice_set, Option, option_map, IfSome, Result, OnOk, OnErr}
+use Rattle.std.specs.Prelude.{ℕ, ◌≡◌, ◌<◌, Bool, true, List, [], length, slice_index, slice_index_or, slice_set, Option, option_map, IfSome, Result, OnOk, OnErr, if◌then◌else◌}
 use Rattle.block_device.specs.Counts.{HasRisen, HasCause}
 
--- The blocks where the disk tells them, how many blocks it has, how often a transfer failed, and how
+-- What kind of disk it is: whether its count of faults is exact, which is that it rises by transfers that fail alone (that of a
+-- mirror rises too where one of its disks fails and the other serves), and how many disks it is, of which it may stand for several.
+pub record DiskKind : Type 0 where
+  pub exact : Bool
+  pub members : ℕ
+
+-- one disk, whose count is exact
+abbrev pub one_disk : DiskKind
+one_disk = record { exact = true; members = 1 }
+
+-- The blocks where the disk tells them, how many blocks it has, its kind, how often a transfer failed, and how
 -- often one was asked for.
 pub record DiskSeen : Type 0 where
   pub content : Option (List (List ℕ))
   pub size : ℕ
+  pub kind : DiskKind
   pub faults : ℕ
   pub calls : ℕ
+
+-- How many of its transfers failed, as far as its count tells that: none of a disk whose count isn't exact.
+abbrev pub failures_told : DiskSeen → ℕ
+failures_told disk = if disk.kind.exact then disk.faults else 0
 
 -- 4096 bytes
 abbrev pub IsBlock : List ℕ → Type 0
@@ -40,8 +55,10 @@ pub record Reads {E : Type 0} (old new : DiskSeen) (block : ℕ) (into : List �
   pub gives : OnOk result (Shows old.content block into)
   pub content : new.content ≡ old.content
   pub size : new.size ≡ old.size
+  pub kind : new.kind ≡ old.kind
   pub calls : HasRisen old.calls new.calls
   pub cause : HasCause old.faults new.faults result
+  pub steady : OnOk result (failures_told new ≡ failures_told old)
 
 -- What `write` does: the block is `from`, or after a failure some 4096 bytes; no other block changes;
 -- and it fails only with a fault counted.
@@ -49,5 +66,7 @@ pub record Writes {E : Type 0} (old new : DiskSeen) (block : ℕ) (from : List �
   pub written : OnOk result (new.content ≡ with_block old.content block from)
   pub spoiled : OnErr result (Spoils old.content new.content block)
   pub size : new.size ≡ old.size
+  pub kind : new.kind ≡ old.kind
   pub calls : HasRisen old.calls new.calls
   pub cause : HasCause old.faults new.faults result
+  pub steady : OnOk result (failures_told new ≡ failures_told old)

@@ -1,7 +1,7 @@
 -- What contracts see of the memory forms, and what their calls do to them. Public clauses cite this.
 use Rattle.std.specs.Prelude.{ℕ, ◌+◌, ◌-◌, ◌^◌, min, max, Bool, ◌||◌, ◌&&◌, nat_eq, nat_lt, nat_le, List, [], ◌++◌, length, take, drop, replicate, slice_set, slice_index_or, Some, if◌then◌else◌}
 use Rattle.std.specs.List.{list_any}
-use Rattle.block_device.specs.DiskSeen.{DiskSeen}
+use Rattle.block_device.specs.DiskSeen.{DiskSeen, one_disk}
 use Rattle.block_device.specs.StreamSeen.{SourceSeen, SinkSeen}
 
 -- The numbers of the calls that are to fail, how many calls there were, and how many of them failed.
@@ -39,7 +39,7 @@ pub record MemDiskSeen : Type 0 where
 
 -- A memory disk tells its content.
 abbrev pub disk_of : MemDiskSeen → DiskSeen
-disk_of d = record { content = Some d.blocks; size = length d.blocks; faults = d.calls.faults; calls = d.calls.calls }
+disk_of d = record { content = Some d.blocks; size = length d.blocks; kind = one_disk; faults = d.calls.faults; calls = d.calls.calls }
 
 -- a disk with these blocks, of which no call was made yet
 abbrev pub fresh_disk : List (List ℕ) → List ℕ → MemDiskSeen

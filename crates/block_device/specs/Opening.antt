@@ -20,6 +20,7 @@ IsRackFault old new number Memory = new ≡ old
 -- the rack counts it as attached and no fault; or a fault of the rack, or lacks memory.
 pub record Opens {D : Type 0} (old new : RackSeen) (spec : Spec) (seen : D → DiskSeen) (result : Result (NumberedDisk D) AttachFault) : Type 0 where
   pub attached : IfOk result (λ given. (given.number ≡ spec_number spec) × IsAttached spec (old.holds spec) (seen given.disk))
+  pub single : IfOk result (λ given. (seen given.disk).kind.members ≡ 1)
   pub unfailed : IfOk result (λ given. (seen given.disk).faults ≡ 0)
   pub counted : OnOk result (new.attached ≡ old.attached + 1)
   pub uncounted : OnErr result (new.attached ≡ old.attached)

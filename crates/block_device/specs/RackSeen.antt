@@ -29,11 +29,12 @@ IsAttached (Path number path) holds disk = disk.content ≡ holds
 abbrev pub KeepsOthers : RackSeen → RackSeen → Spec → Type 0
 KeepsOthers old new spec = (other : Spec) → spec_number other ≢ spec_number spec → new.holds other ≡ old.holds other
 
--- What `attach` does: it gives the disk of the spec, which has counted no fault, and counts it as attached;
+-- What `attach` does: it gives the disk of the spec, one disk which has counted no fault, and counts it as attached;
 -- or fails with a fault counted, or lacks memory and leaves the rack as it was. A disk that is given counts no fault
 -- of the rack.
 pub record Attaches {D : Type 0} (old new : RackSeen) (spec : Spec) (seen : D → DiskSeen) (result : Result D RackFault) : Type 0 where
   pub attached : IfOk result (λ disk. IsAttached spec (old.holds spec) (seen disk))
+  pub single : IfOk result (λ disk. (seen disk).kind.members ≡ 1)
   pub unfailed : IfOk result (λ disk. (seen disk).faults ≡ 0)
   pub counted : OnOk result (new.attached ≡ old.attached + 1)
   pub uncounted : OnErr result (new.attached ≡ old.attached)

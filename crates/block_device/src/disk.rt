@@ -1,5 +1,5 @@
 //! Disks of blocks of 4096 bytes.
-ghost use Rattle.std.specs.Prelude.{◌≡◌, ◌<◌, length, Bool, IsTrue, OnOk};
+ghost use Rattle.std.specs.Prelude.{◌≡◌, ◌<◌, length};
 ghost use Rattle.block_device.specs.DiskSeen.{DiskSeen, HasBlocks, Reads, Writes};
 
 use thiserror::Error;
@@ -15,10 +15,6 @@ pub struct Failed;
 /// the same before and after each call.
 pub trait Disk: Drop {
     ghost seen: { Self → DiskSeen };
-
-    /// Does the count of faults rise by transfers that fail alone? That of a mirror rises too where one of its disks
-    /// fails and the other serves.
-    ghost exact: { Bool };
 
     /// How many blocks the disk has. The number never changes.
     fn blocks(&self) -> u32
@@ -37,18 +33,14 @@ pub trait Disk: Drop {
         requires block { block < (seen self.old).size }
         requires size { length into.old ≡ 4096 }
         // It gives the block where the disk tells, changes none, and fails only with a fault counted.
-        ensures reads { Reads (seen self.old) (seen self.new) block into.new result }
-        ensures exact { IsTrue exact
-            → OnOk result ((seen self.new).faults ≡ (seen self.old).faults) };
+        ensures { Reads (seen self.old) (seen self.new) block into.new result };
 
     /// Writes a block. After `Failed` what that block holds is arbitrary.
     fn write(&mut self, block: u32, from: &[u8]) -> Result<(), Failed>
         requires block { block < (seen self.old).size }
         requires size { length from.now ≡ 4096 }
         // It changes that block alone, and fails only with a fault counted.
-        ensures writes { Writes (seen self.old) (seen self.new) block from.now result }
-        ensures exact { IsTrue exact
-            → OnOk result ((seen self.new).faults ≡ (seen self.old).faults) };
+        ensures { Writes (seen self.old) (seen self.new) block from.now result };
 
     ghost has_blocks: { (disk : Self) → HasBlocks (seen disk).content (seen disk).size };
 }

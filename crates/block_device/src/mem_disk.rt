@@ -74,14 +74,12 @@ impl MemDisk {
 }
 
 impl Disk for MemDisk {
-    ghost use Rattle.std.specs.Prelude.{true, ◌↔◌, IsErr, IsTrue, OnErr, is_err};
+    ghost use Rattle.std.specs.Prelude.{◌↔◌, IsErr, IsTrue, OnErr, is_err};
     ghost use Rattle.block_device.specs.DiskSeen.{Reads, Writes};
     ghost use Rattle.block_device.specs.MemDiskLook.{look, look_has_blocks};
     ghost use Rattle.block_device.specs.MemSeen.{disk_of, after_read, after_write, is_next_listed};
 
     ghost seen = { λ d. disk_of (look d) };
-
-    ghost exact = { true };
 
     fn blocks(&self) -> u32 {
         self.blocks.len() as u32

@@ -1,5 +1,5 @@
 //! Disks with their numbers, whose transfers say what was counted where they fail.
-ghost use Rattle.std.specs.Prelude.{◌≡◌, ◌<◌, length, IfErr, IsTrue, OnOk};
+ghost use Rattle.std.specs.Prelude.{◌≡◌, ◌<◌, length, IfErr};
 ghost use Rattle.block_device.specs.DiskSeen.{Reads, Writes};
 ghost use Rattle.block_device.specs.Faults.{IsFaultOf};
 
@@ -15,8 +15,6 @@ pub fn read_block<D: Disk>(
     requires block { block < (D.seen disk.old).size }
     requires size { length into.old ≡ 4096 }
     ensures reads { Reads (D.seen disk.old) (D.seen disk.new) block into.new result }
-    ensures exact { IsTrue D.exact
-        → OnOk result ((D.seen disk.new).faults ≡ (D.seen disk.old).faults) }
     ensures fault { IfErr result (IsFaultOf number (D.seen disk.old) (D.seen disk.new)) }
 {
     let before = disk.faults();
@@ -40,8 +38,6 @@ pub fn write_block<D: Disk>(
     requires block { block < (D.seen disk.old).size }
     requires size { length from.now ≡ 4096 }
     ensures writes { Writes (D.seen disk.old) (D.seen disk.new) block from.now result }
-    ensures exact { IsTrue D.exact
-        → OnOk result ((D.seen disk.new).faults ≡ (D.seen disk.old).faults) }
     ensures fault { IfErr result (IsFaultOf number (D.seen disk.old) (D.seen disk.new)) }
 {
     let before = disk.faults();
@@ -68,8 +64,6 @@ impl<D: Disk> NumberedDisk<D> {
         requires block { block < (D.seen self.old.disk).size }
         requires size { length into.old ≡ 4096 }
         ensures reads { Reads (D.seen self.old.disk) (D.seen self.new.disk) block into.new result }
-        ensures exact { IsTrue D.exact
-            → OnOk result ((D.seen self.new.disk).faults ≡ (D.seen self.old.disk).faults) }
         ensures fault { IfErr result
             (IsFaultOf self.old.number (D.seen self.old.disk) (D.seen self.new.disk)) }
         // What stays.
@@ -84,8 +78,6 @@ impl<D: Disk> NumberedDisk<D> {
         requires size { length from.now ≡ 4096 }
         ensures writes { Writes
             (D.seen self.old.disk) (D.seen self.new.disk) block from.now result }
-        ensures exact { IsTrue D.exact
-            → OnOk result ((D.seen self.new.disk).faults ≡ (D.seen self.old.disk).faults) }
         ensures fault { IfErr result
             (IsFaultOf self.old.number (D.seen self.old.disk) (D.seen self.new.disk)) }
         // What stays.

@@ -1,5 +1,5 @@
 //! Disks before the machine runs.
-ghost use Rattle.std.specs.Prelude.{◌≡◌, ◌<◌, length, option_map, IsTrue, IfOk, IfErr, OnOk};
+ghost use Rattle.std.specs.Prelude.{◌≡◌, ◌<◌, length, option_map, IfOk, IfErr};
 ghost use Rattle.block_device.specs.DiskSeen.{Reads, Writes};
 ghost use Rattle.block_device.specs.Opening.{Opens, IsDiskFault};
 ghost use Rattle.block_device.specs.Pairs.{CanPair};
@@ -77,8 +77,6 @@ impl<D: Disk> Unopened<D> {
         requires block { block < (D.seen self.old.disk).size }
         requires size { length into.old ≡ 4096 }
         ensures reads { Reads (D.seen self.old.disk) (D.seen self.new.disk) block into.new result }
-        ensures exact { IsTrue D.exact
-            → OnOk result ((D.seen self.new.disk).faults ≡ (D.seen self.old.disk).faults) }
         ensures fault { IfErr result
             (IsDiskFault self.old.number (D.seen self.old.disk) (D.seen self.new.disk)) }
         // What stays.
@@ -96,8 +94,6 @@ impl<D: Disk> Unopened<D> {
         requires size { length from.now ≡ 4096 }
         ensures writes { Writes
             (D.seen self.old.disk) (D.seen self.new.disk) block from.now result }
-        ensures exact { IsTrue D.exact
-            → OnOk result ((D.seen self.new.disk).faults ≡ (D.seen self.old.disk).faults) }
         ensures fault { IfErr result
             (IsDiskFault self.old.number (D.seen self.old.disk) (D.seen self.new.disk)) }
         // What stays.

@@ -15,8 +15,6 @@ impl<D: Disk> Disk for Untold<D> {
 
     ghost seen = { λ d. record (D.seen d.disk) { content = None } };
 
-    ghost exact = { D.exact };
-
     fn blocks(&self) -> u32 {
         self.disk.blocks()
     }

@@ -1,6 +1,6 @@
 -- What contracts see of a disk over a file. Public clauses cite this.
 use Rattle.std.specs.Prelude.{ℕ, None, Bool, if◌then◌else◌}
-use Rattle.block_device.specs.DiskSeen.{DiskSeen}
+use Rattle.block_device.specs.DiskSeen.{DiskSeen, one_disk}
 use Rattle.block_device.specs.MemSeen.{one_more}
 
 -- a disk over a file: how many blocks it has, how often a transfer failed, and how often one was asked for
@@ -11,7 +11,7 @@ pub record FileDiskSeen : Type 0 where
 
 -- It tells nothing of content.
 abbrev pub file_disk_as_disk : FileDiskSeen → DiskSeen
-file_disk_as_disk d = record { content = None; size = d.size; faults = d.faults; calls = d.calls }
+file_disk_as_disk d = record { content = None; size = d.size; kind = one_disk; faults = d.faults; calls = d.calls }
 
 -- a disk of so many blocks, of which no call was made yet
 abbrev pub fresh_file_disk : ℕ → FileDiskSeen

@@ -67,12 +67,9 @@ impl<F: FileExt + Drop> FileDisk<F> {
 }
 
 impl<F: FileExt + Drop> Disk for FileDisk<F> {
-    ghost use Rattle.std.specs.Prelude.{true};
     ghost use Rattle.disk_file.specs.FileDiskSeen.{file_disk_as_disk};
 
     ghost seen = { file_disk_as_disk };
-
-    ghost exact = { true };
 
     fn blocks(&self) -> u32 {
         self.blocks

@@ -10,7 +10,7 @@ use Rattle.block_device.specs.declared.disk.Failed.{Failed}
 use Rattle.block_device.specs.Joins.{content_of_both}
 use Rattle.block_device.proofs.SumLemmas.{first_risen, second_risen, sums_risen, first_cause, second_cause}
 use Rattle.disk_mirror.specs.MirrorBlocks.{true_or_false, mirror_block-fresh, mirror_block-stale, length-mirror_blocks, get_or-mirror_blocks}
-use Rattle.disk_mirror.specs.MirrorSeen.{MirrorSeen, is_fresh, mirror_block, mirror_blocks, mirror_disk, mirror_seen, HasFreshSide, SameWhereFresh, ReadsFirst, WritesEach}
+use Rattle.disk_mirror.specs.MirrorSeen.{MirrorSeen, is_fresh, kind_of_mirror, mirror_block, mirror_blocks, mirror_disk, mirror_seen, HasFreshSide, SameWhereFresh, ReadsFirst, WritesEach}
 
 -- ---- blocks
 
@@ -88,6 +88,8 @@ module _ {E : Type 0} (a b : DiskSeen) (n : ℕ) (marks others : List Bool) (lon
     gives = on_ok_weaker r (shows_first a.content b.content a.size n marks into long inside fresh) it.gives;
     content = ap (λ x. content_of_both (mirror_blocks marks) x b.content) it.content;
     size = it.size;
+    kind = ap (λ k. kind_of_mirror k b.kind) it.kind;
+    steady = on_ok_weaker r (λ _. refl) it.steady;
     calls = first_risen a.calls new.calls b.calls b.calls it.calls (omega arith);
     cause = first_cause a.faults new.faults b.faults b.faults r it.cause (omega arith);
   }
@@ -98,6 +100,8 @@ module _ {E : Type 0} (a b : DiskSeen) (n : ℕ) (marks others : List Bool) (lon
     gives = on_ok_weaker r (shows_second a.content b.content a.size n marks into long inside stale) it.gives;
     content = ap (content_of_both (mirror_blocks marks) a.content) it.content;
     size = refl;
+    kind = ap (kind_of_mirror a.kind) it.kind;
+    steady = on_ok_weaker r (λ _. refl) it.steady;
     calls = second_risen a.calls a.calls b.calls new.calls (omega arith) it.calls;
     cause = second_cause a.faults a.faults b.faults new.faults r (omega arith) it.cause;
   }
@@ -108,6 +112,8 @@ module _ {E : Type 0} (a b : DiskSeen) (n : ℕ) (marks others : List Bool) (lon
     gives = on_ok_weaker s (shows_either a.content b.content a.size n marks others into long inside fresh also same) other.gives;
     content = ap (λ x. content_of_both (mirror_blocks marks) x next.content) one.content ∙ ap (content_of_both (mirror_blocks marks) a.content) other.content;
     size = one.size;
+    kind = ap (λ k. kind_of_mirror k next.kind) one.kind ∙ ap (kind_of_mirror a.kind) other.kind;
+    steady = on_ok_weaker s (λ _. refl) other.steady;
     calls = sums_risen a.calls new.calls b.calls next.calls one.calls other.calls;
     cause = second_cause a.faults new.faults b.faults next.faults s one.cause.later other.cause;
   }
@@ -165,6 +171,8 @@ module _ (a b new next : DiskSeen) (n : ℕ) (from : List ℕ) (marks : List Boo
     written = put true from from one.written other.written;
     spoiled = tt;
     size = one.size;
+    kind = ap (λ k. kind_of_mirror k next.kind) one.kind ∙ ap (kind_of_mirror a.kind) other.kind;
+    steady = refl;
     calls = sums_risen a.calls new.calls b.calls next.calls one.calls other.calls;
     cause = first_cause a.faults new.faults b.faults next.faults (Ok u) one.cause other.cause.later;
   }
@@ -172,6 +180,8 @@ module _ (a b new next : DiskSeen) (n : ℕ) (from : List ℕ) (marks : List Boo
     written = put true from other.spoiled.0 one.written other.spoiled.2;
     spoiled = tt;
     size = one.size;
+    kind = ap (λ k. kind_of_mirror k next.kind) one.kind ∙ ap (kind_of_mirror a.kind) other.kind;
+    steady = refl;
     calls = sums_risen a.calls new.calls b.calls next.calls one.calls other.calls;
     cause = first_cause a.faults new.faults b.faults next.faults (Ok u) one.cause other.cause.later;
   }
@@ -179,6 +189,8 @@ module _ (a b new next : DiskSeen) (n : ℕ) (from : List ℕ) (marks : List Boo
     written = put false one.spoiled.0 from one.spoiled.2 other.written;
     spoiled = tt;
     size = one.size;
+    kind = ap (λ k. kind_of_mirror k next.kind) one.kind ∙ ap (kind_of_mirror a.kind) other.kind;
+    steady = refl;
     calls = sums_risen a.calls new.calls b.calls next.calls one.calls other.calls;
     cause = second_cause a.faults new.faults b.faults next.faults (Ok v) one.cause.later other.cause;
   }
@@ -186,6 +198,8 @@ module _ (a b new next : DiskSeen) (n : ℕ) (from : List ℕ) (marks : List Boo
     written = tt;
     spoiled = (one.spoiled.0, one.spoiled.1, put true one.spoiled.0 other.spoiled.0 one.spoiled.2 other.spoiled.2);
     size = one.size;
+    kind = ap (λ k. kind_of_mirror k next.kind) one.kind ∙ ap (kind_of_mirror a.kind) other.kind;
+    steady = tt;
     calls = sums_risen a.calls new.calls b.calls next.calls one.calls other.calls;
     cause = second_cause a.faults new.faults b.faults next.faults (Err f) one.cause.later other.cause;
   }
@@ -194,8 +208,8 @@ module _ (a b new next : DiskSeen) (n : ℕ) (from : List ℕ) (marks : List Boo
 
 -- An answer that failed where another did says the same of a write.
 pub writes_as : {E : Type 0} (old new : DiskSeen) (n : ℕ) (from : List ℕ) (answer other : Result (Unit {0}) E) → is_err answer ≡ is_err other → Writes old new n from other → Writes old new n from answer
-writes_as old new n from (Ok u) (Ok v) same it = record { written = it.written; spoiled = tt; size = it.size; calls = it.calls; cause = record { later = it.cause.later; failed = tt } }
-writes_as old new n from (Err e) (Err f) same it = record { written = tt; spoiled = it.spoiled; size = it.size; calls = it.calls; cause = record { later = it.cause.later; failed = it.cause.failed } }
+writes_as old new n from (Ok u) (Ok v) same it = record { written = it.written; spoiled = tt; size = it.size; kind = it.kind; steady = it.steady; calls = it.calls; cause = record { later = it.cause.later; failed = tt } }
+writes_as old new n from (Err e) (Err f) same it = record { written = tt; spoiled = it.spoiled; size = it.size; kind = it.kind; steady = tt; calls = it.calls; cause = record { later = it.cause.later; failed = it.cause.failed } }
 writes_as old new n from (Ok u) (Err f) same it = absurd (cc)
 writes_as old new n from (Err e) (Ok v) same it = absurd (cc)
 

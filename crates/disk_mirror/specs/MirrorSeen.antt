@@ -1,10 +1,10 @@
 -- What is seen of a mirror: on which disks each block is fresh, what the mirror tells and counts, and what its
 -- transfers ask of its disks. Public clauses cite this.
-use Rattle.std.specs.Prelude.{ℕ, ◌≡◌, ◌<◌, ◌⊎◌, Bool, true, false, ◌||◌, ◌&&◌, IsTrue, IsFalse, List, [], map, length, replicate, slice_index_or, slice_set, Option, Result, Ok, Err, OnErr, is_ok, is_err, if◌then◌else◌}
+use Rattle.std.specs.Prelude.{ℕ, ◌≡◌, ◌<◌, ◌+◌, ◌⊎◌, Bool, true, false, ◌||◌, ◌&&◌, IsTrue, IsFalse, List, [], map, length, replicate, slice_index_or, slice_set, Option, Result, Ok, Err, OnErr, is_ok, is_err, if◌then◌else◌}
 use Rattle.std.specs.Option.{ForSome}
 use Rattle.std.specs.List.{range_with_len}
 use Rattle.block_device.specs.Counts.{HasRisen}
-use Rattle.block_device.specs.DiskSeen.{DiskSeen, Reads, Writes}
+use Rattle.block_device.specs.DiskSeen.{DiskKind, DiskSeen, Reads, Writes}
 use Rattle.block_device.specs.declared.disk.Failed.{Failed}
 use Rattle.block_device.specs.Joins.{count_sum, content_of_both}
 
@@ -36,12 +36,17 @@ mirror_block fresh_a first second n = slice_index_or (if is_fresh fresh_a n then
 abbrev pub mirror_blocks : List Bool → List (List ℕ) → List (List ℕ) → List (List ℕ)
 mirror_blocks fresh_a first second = map (mirror_block fresh_a first second) (range_with_len 0 (length fresh_a))
 
+-- What one disk fails to serve, the other serves, and the fault is counted: the count of a mirror isn't exact.
+abbrev pub kind_of_mirror : DiskKind → DiskKind → DiskKind
+kind_of_mirror first second = record { exact = false; members = first.members + second.members }
+
 -- A mirror has as many blocks as each of its disks, tells them where both disks tell theirs, and counts what
 -- both count.
 abbrev pub mirror_disk : List Bool → DiskSeen → DiskSeen → DiskSeen
 mirror_disk fresh_a first second = record {
   content = content_of_both (mirror_blocks fresh_a) first.content second.content;
   size = first.size;
+  kind = kind_of_mirror first.kind second.kind;
   faults = count_sum first.faults second.faults;
   calls = count_sum first.calls second.calls;
 }

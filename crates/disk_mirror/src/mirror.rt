@@ -108,14 +108,10 @@ fn answer_of(on_a: Result<(), Failed>, on_b: Result<(), Failed>) -> Result<(), F
 }
 
 impl<D: Disk> Disk for Mirror<D> {
-    ghost use Rattle.std.specs.Prelude.{false};
     ghost use Rattle.disk_mirror.specs.MirrorSeen.{mirror_seen, AsksFresh, WritesBoth};
     ghost use Rattle.disk_mirror.specs.MirrorLook.{mirror_look, blocks_of_mirror};
 
     ghost seen = { λ m. mirror_seen D.seen (mirror_look m) };
-
-    // What one disk fails to serve, the other serves, and the fault is counted.
-    ghost exact = { false };
 
     fn blocks(&self) -> u32 {
         self.a.blocks()

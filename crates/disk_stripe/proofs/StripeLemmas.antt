@@ -1,12 +1,12 @@
 -- A transfer of the disk where a block lies is one of the stripe.
 use Rattle.std.proofs.Common.{ℕ, ◌≡◌, ◌≢◌, ◌+◌, ◌<◌, ◌/◌, ◌%◌, ◌∙◌, ap, sym, subst, refl, inl, inr, arith, List, [], length, get_or, set, Option, Some, None}
-use Rattle.std.specs.Prelude.{Result}
+use Rattle.std.specs.Prelude.{◌&&◌, Result, if◌then◌else◌}
 use Rattle.std.proofs.lemmas.Bool.{cases_eq}
 use Rattle.std.proofs.lemmas.List.{ext_get_or, length-set, get_or-set_same, get_or-set_other}
 use Rattle.std.proofs.lemmas.Result.{on_ok_weaker, on_err_weaker}
-use Rattle.block_device.specs.DiskSeen.{DiskSeen, HasBlocks, Reads, Writes, Shows, with_block}
-use Rattle.block_device.specs.Joins.{content_of_both}
-use Rattle.block_device.proofs.SumLemmas.{first_risen, second_risen, first_cause, second_cause}
+use Rattle.block_device.specs.DiskSeen.{DiskKind, DiskSeen, HasBlocks, Reads, Writes, Shows, failures_told, with_block}
+use Rattle.block_device.specs.Joins.{content_of_both, count_sum, kind_of_both}
+use Rattle.block_device.proofs.SumLemmas.{first_risen, second_risen, first_cause, second_cause, first_told, second_told}
 use Rattle.disk_stripe.specs.StripeBlocks.{parity, stripe_block-even, stripe_block-odd, length-stripe_blocks, get_or-stripe_blocks}
 use Rattle.disk_stripe.specs.StripeSeen.{stripe_block, stripe_blocks, stripe_seen, stripe_seen_by, ReadsOne, WritesOne}
 
@@ -98,6 +98,19 @@ put_odd (Some xs) None size n bytes hx hy odd inside = refl
 put_odd (Some xs) (Some ys) size n bytes hx hy odd inside =
     ap (λ (all : List (List ℕ)). Some all) (stripe_blocks-set_odd xs ys n bytes (omega (arith, hx.0, hy.0)) odd (omega (arith, inside, hx.0, hy.0)))
 
+-- ---- counts
+
+-- One disk tells as many failures as before, and so does the stripe.
+first_tells : (a b new : DiskSeen) → new.kind ≡ a.kind → failures_told new ≡ failures_told a → failures_told (stripe_seen new b) ≡ failures_told (stripe_seen a b)
+first_tells a b new kind same =
+    ap (λ (k : DiskKind). if k.exact && b.kind.exact then count_sum new.faults b.faults else 0) kind
+    ∙ first_told a.kind.exact b.kind.exact a.faults new.faults b.faults (sym (ap (λ (k : DiskKind). if k.exact then new.faults else 0) kind) ∙ same)
+
+second_tells : (a b new : DiskSeen) → new.kind ≡ b.kind → failures_told new ≡ failures_told b → failures_told (stripe_seen a new) ≡ failures_told (stripe_seen a b)
+second_tells a b new kind same =
+    ap (λ (k : DiskKind). if a.kind.exact && k.exact then count_sum a.faults new.faults else 0) kind
+    ∙ second_told a.kind.exact b.kind.exact b.faults new.faults a.faults (sym (ap (λ (k : DiskKind). if k.exact then new.faults else 0) kind) ∙ same)
+
 -- ---- transfers
 
 module _ {E : Type 0} (a b new : DiskSeen) (n : ℕ) (bytes : List ℕ) (r : Result (Unit {0}) E) (on_a : HasBlocks a.content a.size) (second : HasBlocks b.content b.size) (equal : a.size ≡ b.size) (within : n < a.size + b.size) where
@@ -112,6 +125,8 @@ module _ {E : Type 0} (a b new : DiskSeen) (n : ℕ) (bytes : List ℕ) (r : Res
     gives = on_ok_weaker r (shows_even a.content b.content a.size n bytes on_a on_b even inside) it.gives;
     content = ap (λ x. content_of_both stripe_blocks x b.content) it.content;
     size = ap (λ k. k + b.size) it.size;
+    kind = ap (λ k. kind_of_both k b.kind) it.kind;
+    steady = on_ok_weaker r (first_tells a b new it.kind) it.steady;
     calls = first_risen a.calls new.calls b.calls b.calls it.calls (omega arith);
     cause = first_cause a.faults new.faults b.faults b.faults r it.cause (omega arith);
   }
@@ -121,6 +136,8 @@ module _ {E : Type 0} (a b new : DiskSeen) (n : ℕ) (bytes : List ℕ) (r : Res
     written = on_ok_weaker r (λ is. ap (λ x. content_of_both stripe_blocks x b.content) is ∙ put_even a.content b.content a.size n bytes on_a on_b even inside) it.written;
     spoiled = on_err_weaker r (λ (some, block, is). (some, block, ap (λ x. content_of_both stripe_blocks x b.content) is ∙ put_even a.content b.content a.size n some on_a on_b even inside)) it.spoiled;
     size = ap (λ k. k + b.size) it.size;
+    kind = ap (λ k. kind_of_both k b.kind) it.kind;
+    steady = on_ok_weaker r (first_tells a b new it.kind) it.steady;
     calls = first_risen a.calls new.calls b.calls b.calls it.calls (omega arith);
     cause = first_cause a.faults new.faults b.faults b.faults r it.cause (omega arith);
   }
@@ -137,6 +154,8 @@ module _ {E : Type 0} (a b new : DiskSeen) (n : ℕ) (bytes : List ℕ) (r : Res
     gives = on_ok_weaker r (shows_odd a.content b.content a.size n bytes on_a also_b odd there) it.gives;
     content = ap (content_of_both stripe_blocks a.content) it.content;
     size = ap (λ k. a.size + k) it.size;
+    kind = ap (kind_of_both a.kind) it.kind;
+    steady = on_ok_weaker r (second_tells a b new it.kind) it.steady;
     calls = second_risen a.calls a.calls b.calls new.calls (omega arith) it.calls;
     cause = second_cause a.faults a.faults b.faults new.faults r (omega arith) it.cause;
   }
@@ -146,6 +165,8 @@ module _ {E : Type 0} (a b new : DiskSeen) (n : ℕ) (bytes : List ℕ) (r : Res
     written = on_ok_weaker r (λ is. ap (content_of_both stripe_blocks a.content) is ∙ put_odd a.content b.content a.size n bytes on_a also_b odd there) it.written;
     spoiled = on_err_weaker r (λ (some, block, is). (some, block, ap (content_of_both stripe_blocks a.content) is ∙ put_odd a.content b.content a.size n some on_a also_b odd there)) it.spoiled;
     size = ap (λ k. a.size + k) it.size;
+    kind = ap (kind_of_both a.kind) it.kind;
+    steady = on_ok_weaker r (second_tells a b new it.kind) it.steady;
     calls = second_risen a.calls a.calls b.calls new.calls (omega arith) it.calls;
     cause = second_cause a.faults a.faults b.faults new.faults r (omega arith) it.cause;
   }

@@ -2,7 +2,7 @@
 use Rattle.std.specs.Prelude.{ℕ, ◌≡◌, ◌+◌, ◌/◌, ◌%◌, nat_eq, List, [], map, length, slice_index_or, if◌then◌else◌, Result}
 use Rattle.std.specs.List.{range_with_len}
 use Rattle.block_device.specs.DiskSeen.{DiskSeen, Reads, Writes}
-use Rattle.block_device.specs.Joins.{count_sum, content_of_both}
+use Rattle.block_device.specs.Joins.{count_sum, content_of_both, kind_of_both}
 
 -- Block n of a stripe is block n / 2 of the first disk where n is even, and of the second where n is odd.
 abbrev pub stripe_block : List (List ℕ) → List (List ℕ) → ℕ → List ℕ
@@ -12,11 +12,12 @@ stripe_block first second n = slice_index_or (if nat_eq (n % 2) 0 then first els
 abbrev pub stripe_blocks : List (List ℕ) → List (List ℕ) → List (List ℕ)
 stripe_blocks first second = map (stripe_block first second) (range_with_len 0 (length first + length second))
 
--- A stripe has the blocks of both disks, tells them where both tell theirs, and counts what both count.
+-- A stripe has the blocks of both disks, tells them where both tell theirs, and counts what both count. A transfer of one disk is the stripe's.
 abbrev pub stripe_seen : DiskSeen → DiskSeen → DiskSeen
 stripe_seen first second = record {
   content = content_of_both stripe_blocks first.content second.content;
   size = first.size + second.size;
+  kind = kind_of_both first.kind second.kind;
   faults = count_sum first.faults second.faults;
   calls = count_sum first.calls second.calls;
 }

@@ -14,7 +14,7 @@ pub struct Stripe<D: Disk> {
 }
 
 impl<D: Disk> Stripe<D> {
-    ghost use Rattle.std.specs.Prelude.{length, IsTrue, OnOk};
+    ghost use Rattle.std.specs.Prelude.{length};
     ghost use Rattle.disk_stripe.specs.StripeSeen.{stripe_seen_by, ReadsOne, WritesOne};
     ghost use Rattle.disk_stripe.specs.StripeLook.{stripe_disks};
 
@@ -38,11 +38,8 @@ impl<D: Disk> Stripe<D> {
     fn read_one(&mut self, block: u32, into: &mut [u8]) -> Result<(), Failed>
         requires block { block < (stripe_seen_by D.seen (stripe_disks self.old)).size }
         requires size { length into.old ≡ 4096 }
-        ensures reads { ReadsOne D.seen (stripe_disks self.old) (stripe_disks self.new)
+        ensures { ReadsOne D.seen (stripe_disks self.old) (stripe_disks self.new)
             block into.new result }
-        ensures exact { IsTrue D.exact
-            → OnOk result ((stripe_seen_by D.seen (stripe_disks self.new)).faults
-            ≡ (stripe_seen_by D.seen (stripe_disks self.old)).faults) }
     {
         if block % 2 == 0 {
             self.a.read(block / 2, into)
@@ -55,11 +52,8 @@ impl<D: Disk> Stripe<D> {
     fn write_one(&mut self, block: u32, from: &[u8]) -> Result<(), Failed>
         requires block { block < (stripe_seen_by D.seen (stripe_disks self.old)).size }
         requires size { length from.now ≡ 4096 }
-        ensures writes { WritesOne D.seen (stripe_disks self.old) (stripe_disks self.new)
+        ensures { WritesOne D.seen (stripe_disks self.old) (stripe_disks self.new)
             block from.now result }
-        ensures exact { IsTrue D.exact
-            → OnOk result ((stripe_seen_by D.seen (stripe_disks self.new)).faults
-            ≡ (stripe_seen_by D.seen (stripe_disks self.old)).faults) }
     {
         if block % 2 == 0 {
             self.a.write(block / 2, from)
@@ -70,15 +64,12 @@ impl<D: Disk> Stripe<D> {
 }
 
 impl<D: Disk> Disk for Stripe<D> {
-    ghost use Rattle.std.specs.Prelude.{length, IsTrue, OnOk};
+    ghost use Rattle.std.specs.Prelude.{length};
     ghost use Rattle.block_device.specs.DiskSeen.{Reads, Writes};
     ghost use Rattle.disk_stripe.specs.StripeSeen.{stripe_seen_by, ReadsOne, WritesOne};
     ghost use Rattle.disk_stripe.specs.StripeLook.{stripe_disks, blocks_of_stripe};
 
     ghost seen = { λ s. stripe_seen_by D.seen (stripe_disks s) };
-
-    // A transfer of one disk is the stripe's.
-    ghost exact = { D.exact };
 
     fn blocks(&self) -> u32 {
         self.a.blocks() + self.b.blocks()
@@ -97,9 +88,6 @@ impl<D: Disk> Disk for Stripe<D> {
         requires size { length into.old ≡ 4096 }
         ensures reads { Reads (stripe_seen_by D.seen (stripe_disks self.old))
             (stripe_seen_by D.seen (stripe_disks self.new)) block into.new result }
-        ensures exact { IsTrue D.exact
-            → OnOk result ((stripe_seen_by D.seen (stripe_disks self.new)).faults
-            ≡ (stripe_seen_by D.seen (stripe_disks self.old)).faults) }
         // One disk is asked.
         ensures one { ReadsOne D.seen (stripe_disks self.old) (stripe_disks self.new)
             block into.new result }
@@ -112,9 +100,6 @@ impl<D: Disk> Disk for Stripe<D> {
         requires size { length from.now ≡ 4096 }
         ensures writes { Writes (stripe_seen_by D.seen (stripe_disks self.old))
             (stripe_seen_by D.seen (stripe_disks self.new)) block from.now result }
-        ensures exact { IsTrue D.exact
-            → OnOk result ((stripe_seen_by D.seen (stripe_disks self.new)).faults
-            ≡ (stripe_seen_by D.seen (stripe_disks self.old)).faults) }
         // One disk is asked.
         ensures one { WritesOne D.seen (stripe_disks self.old) (stripe_disks self.new)
             block from.now result }

@@ -39,16 +39,12 @@ impl<D: Disk> JoinedDisk<D> {
 }
 
 impl<D: Disk> Disk for JoinedDisk<D> {
-    ghost use Rattle.std.specs.Prelude.{false};
     ghost use Rattle.disk_stripe.specs.StripeLook.{blocks_of_stripe};
     ghost use Rattle.disk_mirror.specs.MirrorLook.{blocks_of_mirror};
     ghost use Rattle.joined_disk.specs.JoinedSeen.{joined_seen};
     ghost use Rattle.joined_disk.specs.declared.joined.JoinedDisk.TheVariants.{Plain, Striped, Mirrored};
 
     ghost seen = { joined_seen D.seen };
-
-    // A mirror may be among them.
-    ghost exact = { false };
 
     fn blocks(&self) -> u32 {
         match self {

@@ -78,13 +78,10 @@ impl<'a> GatedDisk<'a> {
 }
 
 impl<'a> Disk for GatedDisk<'a> {
-    ghost use Rattle.std.specs.Prelude.{false};
     ghost use Rattle.block_device.specs.MemDiskLook.{look, look_has_blocks};
     ghost use Rattle.block_device.specs.MemSeen.{disk_of};
 
     ghost seen = { λ d. disk_of (look d.disk) };
-
-    ghost exact = { false };
 
     fn blocks(&self) -> u32 {
         self.disk.blocks()

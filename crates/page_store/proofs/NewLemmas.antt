@@ -4,7 +4,7 @@ use Rattle.std.specs.Prelude.{slice_index, ◌^◌, ◌/◌, option_map, Contain
 use Rattle.std.specs.List.{range_with_len}
 use Rattle.std.proofs.lemmas.List.{get_or-set_same, get_or-set_other, length-replicate}
 use Rattle.std.proofs.lemmas.Bool.{cases_eq}
-use Rattle.block_device.specs.DiskSeen.{DiskSeen, HasBlocks}
+use Rattle.block_device.specs.DiskSeen.{DiskSeen, HasBlocks, one_disk}
 use Rattle.core_arena.specs.Bytes.{zeros}
 use Rattle.page_clock.specs.Clock.{fresh_clock}
 use Rattle.page_hash.specs.Names.{name_at, AreDistinct}
@@ -118,7 +118,7 @@ module _ (disks : List (ℕ × DiskSeen)) (swap : Option DiskSeen) (are : AreNum
     there = λ i lt e.
         let long = length-numbers disks in
         let within : i < length disks = omega (arith, lt, long) in
-        let d : ℕ × DiskSeen = (0, record { content = None; size = 0; faults = 0; calls = 0 }) in
+        let d : ℕ × DiskSeen = (0, record { content = None; size = 0; kind = one_disk; faults = 0; calls = 0 }) in
         let h : bay_at (set (bays_with disks (replicate 9 missing)) 8 (bay_of swap)) (get_or disks i d).0 ≡ home (get_or disks i d).1 = are-home.each i d within in
         let z : home (get_or disks i d).1 ≡ missing = sym h ∙ ap (bay_at (set (bays_with disks (replicate 9 missing)) 8 (bay_of swap))) (sym (number-at disks i d within)) ∙ e in cc;
   }

@@ -1,6 +1,6 @@
 -- Where the disks are. Public clauses cite this.
 use Rattle.std.specs.Prelude.{◌≡◌, ℕ, ◌<◌, List, [], ◌∷◌, Option, Some, None, slice_index_or, slice_index, slice_set, length, map}
-use Rattle.block_device.specs.DiskSeen.{DiskSeen}
+use Rattle.block_device.specs.DiskSeen.{DiskSeen, one_disk}
 use Rattle.page_store.specs.declared.bays.Bay.{Bay}
 use Rattle.page_store.specs.declared.bays.Bay.TheVariants.{Missing, Home, Out}
 
@@ -46,7 +46,7 @@ pairs_seen seen disks = map (λ disk. (disk.0, seen disk.1)) disks
 
 -- a disk that is not there
 abbrev pub no_disk : DiskSeen
-no_disk = record { content = None; size = 0; faults = 0; calls = 0 }
+no_disk = record { content = None; size = 0; kind = one_disk; faults = 0; calls = 0 }
 
 -- the disk that is home in a bay
 abbrev pub disk_in : BaySeen → DiskSeen

@@ -58,6 +58,7 @@ pub record IsPerformed (note : Note) (f : FlightSeen) : Type 0 where
   pub origin : f.origin ≡ note.origin
   pub number : f.number ≡ note.number
   pub size : f.disk.size ≡ note.disk.size
+  pub kind : f.disk.kind ≡ note.disk.kind
   pub direction : f.writes ≡ note.writes
   pub name : f.name ≡ note.name
   pub block : f.block ≡ note.block
@@ -86,6 +87,7 @@ pub record IsReadClipped {E : Type 0} (old new : DiskSeen) (block valid : ℕ) (
   pub gives : OnOk result (HasBlock old.content block valid bytes)
   pub content : new.content ≡ old.content
   pub size : new.size ≡ old.size
+  pub kind : new.kind ≡ old.kind
   pub calls : HasRisen old.calls new.calls
   pub cause : HasCause old.faults new.faults result
 

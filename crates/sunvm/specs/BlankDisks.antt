@@ -3,7 +3,7 @@ use Rattle.std.specs.Prelude.{ℕ, zero, suc, ◌+◌, ◌-◌, ◌≡◌, ◌<�
 use Rattle.std.proofs.Common.{ap, ◌∙◌, subst}
 use Rattle.std.proofs.lemmas.List.{length-append, length-map, length-replicate}
 use Rattle.std.proofs.Math.Nat.{not-suc-le-zero, le_of_suc-le-suc, le-add_right, add-sub_of_le}
-use Rattle.disk_file.specs.block_device.DiskSeen.{AreBlocks, DiskSeen, HasBlocks, IsBlock}
+use Rattle.disk_file.specs.block_device.DiskSeen.{AreBlocks, DiskSeen, HasBlocks, IsBlock, one_disk}
 use Rattle.disk_file.specs.block_device.MemSeen.{blank_blocks}
 use Rattle.disk_file.specs.block_device.declared.block.Block.{Block}
 use Rattle.sunvm.specs.declared.blank_disk.BlankDisk.{BlankDisk}
@@ -23,11 +23,11 @@ abbrev pub blank_content : List (Option ℕ) → List Block → ℕ → List (Li
 blank_content places written size = map (block_shown written) places ++ blank_blocks (size - length places)
 
 abbrev pub blank_disk_seen : BlankDisk → DiskSeen
-blank_disk_seen d = record { content = Some (blank_content d.places.items d.written.items d.size); size = d.size; faults = 0; calls = d.calls }
+blank_disk_seen d = record { content = Some (blank_content d.places.items d.written.items d.size); size = d.size; kind = one_disk; faults = 0; calls = d.calls }
 
 -- a disk of so many blocks of zeros, of which no call was made yet
 abbrev pub fresh_blank_disk : ℕ → DiskSeen
-fresh_blank_disk blocks = record { content = Some (blank_blocks blocks); size = blocks; faults = 0; calls = 0 }
+fresh_blank_disk blocks = record { content = Some (blank_blocks blocks); size = blocks; kind = one_disk; faults = 0; calls = 0 }
 
 pub zeros_are_bytes : (count at : ℕ) → slice_index (replicate count 0) at < 256
 zeros_are_bytes zero at = le-add_right 1 255

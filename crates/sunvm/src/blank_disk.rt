@@ -97,12 +97,9 @@ impl BlankDisk {
 }
 
 impl Disk for BlankDisk {
-    ghost use Rattle.std.specs.Prelude.{true};
     ghost use Rattle.sunvm.specs.BlankDisks.{blank_disk_seen, blank_disk_has_blocks};
 
     ghost seen = { blank_disk_seen };
-
-    ghost exact = { true };
 
     fn blocks(&self) -> u32 {
         self.size

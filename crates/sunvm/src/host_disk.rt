@@ -12,12 +12,9 @@ pub enum HostDisk {
 }
 
 impl Disk for HostDisk {
-    ghost use Rattle.std.specs.Prelude.{true};
     ghost use Rattle.sunvm.specs.HostSeen.{host_disk_seen, host_disk_has_blocks};
 
     ghost seen = { host_disk_seen };
-
-    ghost exact = { true };
 
     fn blocks(&self) -> u32 {
         match self {

@@ -111,6 +111,7 @@ writes-keep F L M number block result w is =
           (λ e. record {
             number = sym w.on_disk ∙ ap (λ (k : ℕ). (disk_at L k).0) (sym e);
             size = w.writes.size ∙ ap (λ (k : ℕ). (disk_at L k).1.size) (sym e);
+            kind = w.writes.kind ∙ ap (λ (k : ℕ). (disk_at L k).1.kind) (sym e);
             faults = subst (λ (k : ℕ). (disk_at L k).1.faults ≤ w.disk.faults) (sym e) w.writes.cause.later;
             blocks = subst (λ (k : ℕ). KeepsOtherBlocks F (disk_at L k).0 (disk_at L k).1.content w.disk.content) (sym e)
                 (other-blocks-written F (disk_at L w.at).0 block some.0 (disk_at L w.at).1.content w.disk.content (subst (λ (n : ℕ). IsPageBlock F n block) (sym w.on_disk) is) some.1);

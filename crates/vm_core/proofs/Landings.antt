@@ -203,7 +203,7 @@ module _ (s : KernelState) (new : World) (seat : ℕ) (f : FlightSeen)
   quiet-end opening seats own fit is p sent q = record {
     fits = λ o x here fits. (quiet-at o x sent fits here q).fits o x here fits;
     fixed = (quiet-at opening seats own fit is p).fixed;
-    sizes = λ o x here fits. (quiet-at o x sent fits here q).sizes o x here fits;
+    disks = λ o x here fits. (quiet-at o x sent fits here q).disks o x here fits;
     grown = (quiet-at opening seats own fit is p).grown;
     follows = (quiet-at opening seats own fit is p).follows;
   }
@@ -221,7 +221,7 @@ module _ (s : KernelState) (new : World) (seat : ℕ) (f : FlightSeen)
   failed-end opening seats own q call calls syncs fit is b bad locks starts count sent c = record {
     fits = λ o x here fits. (failed-at o x sent q call calls syncs fits here c.performed c.same bad locks starts count).fits o x here fits;
     fixed = (failed-at opening seats own q call calls syncs fit is b.performed b.same bad locks starts count).fixed;
-    sizes = λ o x here fits. (failed-at o x sent q call calls syncs fits here c.performed c.same bad locks starts count).sizes o x here fits;
+    disks = λ o x here fits. (failed-at o x sent q call calls syncs fits here c.performed c.same bad locks starts count).disks o x here fits;
     grown = (failed-at opening seats own q call calls syncs fit is b.performed b.same bad locks starts count).grown;
     follows = (failed-at opening seats own q call calls syncs fit is b.performed b.same bad locks starts count).follows;
   }

@@ -126,6 +126,7 @@ module _ (u v w : World) (spaces : Spaces) (name : PageName) (f e : FlightSeen) 
       record {
         number = refl;
         size = performed.size;
+        kind = performed.kind;
         faults = performed.later;
         blocks = other-blocks-written u.files f.number f.block some.0 f.disk.content e.disk.content (record { name = name; page = p; on_disk = sym number; in_block = sym block }) some.1;
       }

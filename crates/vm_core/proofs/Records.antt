@@ -100,12 +100,13 @@ other-blocks-then F G disk (Some a) (Some b) None k p q = absurd q
 other-blocks-then F G disk (Some a) (Some b) (Some c) k p q = (q.0 ∙ p.0, λ block out. q.1 block (λ is. out (page-block-back F G disk block k is)) ∙ p.1 block out)
 
 pub keeps-disk-refl : (F : FilesSeen) (d : ℕ × DiskSeen) → KeepsDisk F d d
-keeps-disk-refl F d = record { number = refl; size = refl; faults = omega arith; blocks = other-blocks-refl F d.0 d.1.content }
+keeps-disk-refl F d = record { number = refl; size = refl; kind = refl; faults = omega arith; blocks = other-blocks-refl F d.0 d.1.content }
 
 pub keeps-disk-then : (F G : FilesSeen) (a b c : ℕ × DiskSeen) → KeepRecords F G → KeepsDisk F a b → KeepsDisk G b c → KeepsDisk F a c
 keeps-disk-then F G a b c k p q = record {
   number = q.number ∙ p.number;
   size = q.size ∙ p.size;
+  kind = q.kind ∙ p.kind;
   faults = let x = p.faults in let y = q.faults in omega (arith, x, y);
   blocks = other-blocks-then F G a.0 a.1.content b.1.content c.1.content k p.blocks (subst (λ (n : ℕ). KeepsOtherBlocks G n b.1.content c.1.content) p.number q.blocks);
 }

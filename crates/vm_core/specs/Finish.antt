@@ -93,10 +93,11 @@ KeepsOtherBlocks files disk (Some old) (Some new) =
     (length new ≡ length old) × ((block : ℕ) → ¬ IsPageBlock files disk block → slice_index_or new block [] ≡ slice_index_or old block [])
 KeepsOtherBlocks files disk old new = ⊥
 
--- A disk has its number, its size and those blocks, and its count of faults didn't fall.
+-- A disk has its number, its size, its kind and those blocks, and its count of faults didn't fall.
 pub record KeepsDisk (files : FilesSeen) (old new : ℕ × DiskSeen) : Type 0 where
   pub number : new.0 ≡ old.0
   pub size : new.1.size ≡ old.1.size
+  pub kind : new.1.kind ≡ old.1.kind
   pub faults : old.1.faults ≤ new.1.faults
   pub blocks : KeepsOtherBlocks files old.0 old.1.content new.1.content
 

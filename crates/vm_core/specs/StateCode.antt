@@ -35,8 +35,9 @@ use Rattle.fault_entry.specs.seg_vn.Segments.{segment_code}
 
 abbrev pub disk_code : Coded DiskSeen
 disk_code =
-    code_by (Option (List (List ℕ)) × (ℕ × (ℕ × ℕ))) (coded× (coded_option (coded_list (coded_list coded_ℕ))) (coded× coded_ℕ (coded× coded_ℕ coded_ℕ)))
-    (λ d. (d.content, (d.size, (d.faults, d.calls)))) (λ p. record { content = p.0; size = p.1.0; faults = p.1.1.0; calls = p.1.1.1 }) (λ _. refl)
+    code_by (Option (List (List ℕ)) × (ℕ × ((Bool × ℕ) × (ℕ × ℕ)))) (coded× (coded_option (coded_list (coded_list coded_ℕ))) (coded× coded_ℕ (coded× (coded× coded_bool coded_ℕ) (coded× coded_ℕ coded_ℕ))))
+    (λ d. (d.content, (d.size, ((d.kind.exact, d.kind.members), (d.faults, d.calls)))))
+    (λ p. record { content = p.0; size = p.1.0; kind = record { exact = p.1.1.0.0; members = p.1.1.0.1 }; faults = p.1.1.1.0; calls = p.1.1.1.1 }) (λ _. refl)
 
 abbrev of_bay : BaySeen → Option (DiskSeen ⊎ ℕ)
 of_bay missing = None

@@ -1,5 +1,6 @@
 -- What a seat has outside the lock. Public clauses cite this.
 use Rattle.std.specs.Prelude.{◌≡◌, false, [], Option, Some, None}
+use Rattle.vm_core.specs.page_store.block_device.DiskSeen.{one_disk}
 use Rattle.vm_core.specs.page_store.Flight.{note_of, fresh}
 use Rattle.vm_core.specs.Flights.{IsBack}
 use Rattle.vm_core.specs.vm_world.State.{Sent}
@@ -18,7 +19,7 @@ no_sent = record {
     seat = 0;
     origin = 0;
     number = 0;
-    disk = record { content = None; size = 0; faults = 0; calls = 0 };
+    disk = record { content = None; size = 0; kind = one_disk; faults = 0; calls = 0 };
     writes = false;
     name = file_name 0 0;
     block = 0;

@@ -33,7 +33,7 @@ since-then opening s t seats seat before after was at event = record {
   starts = was.starts;
   fits = λ F fit. event.fits F seats at (was.fits F fit);
   fixed = event.fixed ∙ was.fixed;
-  sizes = λ number. event.sizes was.starts.0 seats at (was.fits was.starts.0 was.starts.1) number ∙ was.sizes number;
+  disks = λ number. event.disks was.starts.0 seats at (was.fits was.starts.0 was.starts.1) number ∙ was.disks number;
   follows = λ F so. event.follows F (was.follows F so);
 }
 

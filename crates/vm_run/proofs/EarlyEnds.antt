@@ -1,6 +1,6 @@
 -- A run that stops before its trace: the rack, a disk or memory failed, or a rule is broken.
 use Rattle.std.proofs.Common.{◌≡◌, ℕ, List, [], refl, sym, ap, ◌∙◌, subst, arith, inl, inr, map}
-use Rattle.std.specs.Prelude.{IsTrue, MatchOption, Option, Some, None, Ok, option_map}
+use Rattle.std.specs.Prelude.{MatchOption, Option, Some, None, Ok, option_map}
 use Rattle.volume_files.specs.block_device.Counts.{HasRisen}
 use Rattle.volume_files.specs.block_device.DiskSeen.{DiskSeen}
 use Rattle.volume_files.specs.block_device.OpenSeen.{OpenFaultSeen}
@@ -75,7 +75,7 @@ module _ (st : ℕ) (ft : Option RunFault) (g : Given) (o : Outside) (nothing : 
         by (Some c) k = k
 
     early-case : (H : HistorySeen) (disks : List DiskSeen) (swap : Option DiskSeen) (how : OpenStop) → H.entries ≡ [] → H.faults ≡ [] → HandsStopped what.plan disks swap how
-        → StopCause what.plan g.holds old new disks swap how → (how ≡ halt.Memory → IsTrue o.exact → AreUncounted disks swap) → CaseOf g o (wrote_before o) (record { status = st; fault = ft; history = H; disks = disks; swap = swap }) (ending_of how)
+        → StopCause what.plan g.holds old new disks swap how → (how ≡ halt.Memory → AreUncounted disks swap) → CaseOf g o (wrote_before o) (record { status = st; fault = ft; history = H; disks = disks; swap = swap }) (ending_of how)
     early-case H disks swap (halt.Refused r) entries counts hands cause none = inr (record {
       what = what;
       asked = asked;
@@ -116,7 +116,7 @@ module _ (st : ℕ) (ft : Option RunFault) (g : Given) (o : Outside) (nothing : 
     }))
 
     pub early : {D : Type 0} (seen : D → DiskSeen) (back : HandedBack D) (s : Stop D) → IsUnopened back s → StopsEarly what.plan g.holds old new seen back
-        → (back.why ≡ halt.Memory → IsTrue o.exact → AreUncounted (map seen back.disks.items) (option_map seen back.swap)) → CaseOf g o (wrote_before o) (record (stop_end seen s) { status = st; fault = ft }) s.ending
+        → (back.why ≡ halt.Memory → AreUncounted (map seen back.disks.items) (option_map seen back.swap)) → CaseOf g o (wrote_before o) (record (stop_end seen s) { status = st; fault = ft }) s.ending
     early seen back s u h none =
         let disks : map seen s.disks.items ≡ map seen back.disks.items = ap (λ v. map seen v.items) u.disks in
         let swap : option_map seen s.swap ≡ option_map seen back.swap = ap (option_map seen) u.swap in
@@ -125,7 +125,7 @@ module _ (st : ℕ) (ft : Option RunFault) (g : Given) (o : Outside) (nothing : 
 -- a run that stopped before its trace, whose sink took nothing
 pub stopped-early : (st : ℕ) (ft : Option RunFault) (g : Given) (o : Outside) (what : Asked) → WasAsked g (Ok what) → (old new : ℕ)
     → (HasRisen old new → HasRisen o.rack_old o.rack_new) → (k : SinkSeen) → o.sink_old ≡ k → o.sink_new ≡ k → {D : Type 0} (seen : D → DiskSeen) (back : HandedBack D) (s : Stop D)
-    → IsUnopened back s → StopsEarly what.plan g.holds old new seen back → (back.why ≡ halt.Memory → IsTrue o.exact → AreUncounted (map seen back.disks.items) (option_map seen back.swap))
+    → IsUnopened back s → StopsEarly what.plan g.holds old new seen back → (back.why ≡ halt.Memory → AreUncounted (map seen back.disks.items) (option_map seen back.swap))
     → CaseOf g o (wrote_before o) (record (stop_end seen s) { status = st; fault = ft }) s.ending
 stopped-early st ft g o what asked old new risen k before after seen back s u h none =
     early st ft g o (subst (λ (x : SinkSeen). Wrote o.sink_old x []) (before ∙ sym after) (wrote_nothing o.sink_old)) what asked old new risen seen back s u h none

@@ -43,10 +43,10 @@ still-on k0 k1 k2 a b on later same = elim on [
   | inr part ↦ inr (risen-after k0.faults k1.faults k2.faults part.0 later, still_front k0 k1 k2 a b part.1 same)
 ]
 
-module _ (g : Given) (s0 s1 r0 r1 n0 n1 : ℕ) (exact : Bool) (k0 k1 k2 : SinkSeen) (e : End) (first : k0.faults ≤ k1.faults) (later : k1.faults ≤ k2.faults) where
+module _ (g : Given) (s0 s1 r0 r1 n0 n1 : ℕ) (k0 k1 k2 : SinkSeen) (e : End) (first : k0.faults ≤ k1.faults) (later : k1.faults ≤ k2.faults) where
   -- what the outside has seen, up to a sink
   abbrev pub outside : SinkSeen → Outside
-  outside k = record { source_old = s0; source_new = s1; rack_old = r0; rack_new = r1; attached_old = n0; attached_new = n1; sink_old = k0; sink_new = k; exact = exact }
+  outside k = record { source_old = s0; source_new = s1; rack_old = r0; rack_new = r1; attached_old = n0; attached_new = n1; sink_old = k0; sink_new = k }
 
   bare-line : (how : Ending) → EndsBare (wrote_before (outside k1)) how e → WroteOn k1 k2 [] (last_line_of how) → EndsBare (wrote_all (outside k2)) how e
   bare-line how b w = record { none = b.none; history = b.history; wrote = on_behind k0 k1 k2 [] (last_line_of how) first b.wrote w }
@@ -190,9 +190,9 @@ pub end-same : (st : ℕ) (ft : Option RunFault) (H H-new : HistorySeen) (d d-ne
 end-same st ft H H-new d d-new w w-new a b c = rw (a, b, c) refl
 
 -- THE RUN ENDED in one of the ways
-module _ (g : Given) (s0 s1 r0 r1 n0 n1 : ℕ) (exact : Bool) (k0 k1 k2 : SinkSeen) (first : k0.faults ≤ k1.faults) (later : k1.faults ≤ k2.faults) where
+module _ (g : Given) (s0 s1 r0 r1 n0 n1 : ℕ) (k0 k1 k2 : SinkSeen) (first : k0.faults ≤ k1.faults) (later : k1.faults ≤ k2.faults) where
   abbrev seen : SinkSeen → Outside
-  seen = outside g s0 s1 r0 r1 n0 n1 exact k0 k1 k2 (record { status = 0; fault = None; history = record { entries = []; faults = [] }; disks = []; swap = None }) first later
+  seen = outside g s0 s1 r0 r1 n0 n1 k0 k1 k2 (record { status = 0; fault = None; history = record { entries = []; faults = [] }; disks = []; swap = None }) first later
 
   pub ends-so : (H H-new : HistorySeen) (d d-new : List DiskSeen) (w w-new : Option DiskSeen) → H-new ≡ H → d-new ≡ d → w-new ≡ w → (was how : Ending) (st : ℕ) (ft : Option RunFault)
       → ((x : ℕ) (y : Option RunFault) → CaseOf g (seen k1) (wrote_before (seen k1)) (record { status = x; fault = y; history = H; disks = d; swap = w }) was)
@@ -205,5 +205,5 @@ module _ (g : Given) (s0 s1 r0 r1 n0 n1 : ℕ) (exact : Bool) (k0 k1 k2 : SinkSe
     fault = fault;
     back = back;
     case = subst (λ (e : End). EndsTold g (seen k2) e how ⊎ LacksLine g (seen k2) e how) (end-same st ft H H-new d d-new w w-new a b c)
-        (last-line g s0 s1 r0 r1 n0 n1 exact k0 k1 k2 (record { status = st; fault = ft; history = H; disks = d; swap = w }) first later was how (case st ft) hides concluded);
+        (last-line g s0 s1 r0 r1 n0 n1 k0 k1 k2 (record { status = st; fault = ft; history = H; disks = d; swap = w }) first later was how (case st ft) hides concluded);
   }

@@ -7,7 +7,7 @@ use Rattle.std.specs.FinMap as finite
 use Rattle.std.proofs.lemmas.List.{length-map}
 use Rattle.std.proofs.lemmas.Bool.{cases_eq}
 use Rattle.std.proofs.lemmas.Option.{none-some, slice_get_within, slice_get-get_or}
-use Rattle.volume_files.specs.block_device.DiskSeen.{DiskSeen, HasBlocks}
+use Rattle.volume_files.specs.block_device.DiskSeen.{DiskKind, DiskSeen, HasBlocks}
 use Rattle.volume_files.specs.block_device.declared.disk_fault.DiskFault.{DiskFault}
 use Rattle.vm_core.specs.page_hash.declared.PageName.{PageName}
 use Rattle.vm_core.specs.page_store.Bays.{BaySeen, missing, home, out, bay_at, bay_of, disk_in, home_faults, no_disk, IsStill}
@@ -21,7 +21,7 @@ use Rattle.volume_files.specs.vnode_files.Layout.{disk_of_file}
 use Rattle.volume_files.specs.vnode_files.Grow.{page_count}
 use Rattle.volume_files.specs.vnode_files.Vnode.{VnodeSeen, IsSoundVnode, no_vnode}
 use Rattle.volume_files.specs.flat_model.Flat.{Flat}
-use Rattle.vm_core.specs.vm_world.DiskPlaces.{faults_in, seen_in}
+use Rattle.vm_core.specs.vm_world.DiskPlaces.{disk_fixed, faults_in, seen_in}
 use Rattle.vm_core.specs.vm_world.Events.{IsSince}
 use Rattle.vm_core.specs.vm_world.MemoryFits.{MemoryFits}
 use Rattle.vm_core.specs.vm_world.NotesFit.{NotesFit}
@@ -31,7 +31,7 @@ use Rattle.vm_core.specs.vm_world.State.{KernelState, Fixed}
 use Rattle.vm_core.specs.vm_world.StateFits.{StateFits}
 use Rattle.vm_core.specs.vm_world.World.{World, AllTell, world_table, slot_name}
 use Rattle.vm_core.proofs.vm_world.PageNames.{index-of, page-cases, file-place, slot-place}
-use Rattle.vm_core.proofs.vm_world.StateSteps.{size_of}
+use Rattle.vm_core.proofs.vm_world.StateSteps.{disk_there}
 use Rattle.vm_core.proofs.vm_world.FlatWhole.{some-inj}
 use Rattle.vm_core.proofs.vm_world.Told.{event_law}
 use Rattle.vm_core.specs.Closing.{AreDisksOf}
@@ -89,9 +89,9 @@ same-maps {A} {B} {X} f g (x ∷ xs) (y ∷ ys) long same =
 -- a swap disk that came back with its size serves the slots as it did
 swap-back : (slots : ℕ) (old new : Option DiskSeen) → SwapCameBack (bay_of old) new → IsSwapFor slots old → IsSwapFor slots new
 swap-back slots None None same serves = serves
-swap-back slots None (Some d) same serves = absurd (none-some d.size (sym same))
-swap-back slots (Some x) None same serves = absurd (none-some x.size same)
-swap-back slots (Some x) (Some d) same serves = (serves.0, some-inj d.size x.size same ∙ serves.1)
+swap-back slots None (Some d) same serves = absurd (none-some (disk_fixed d) (sym same))
+swap-back slots (Some x) None same serves = absurd (none-some (disk_fixed x) same)
+swap-back slots (Some x) (Some d) same serves = (serves.0, ap (λ (p : ℕ × DiskKind). p.0) (some-inj (disk_fixed d) (disk_fixed x) same) ∙ serves.1)
 
 pub swap-serves-still : (slots : ℕ) (swap : Option DiskSeen) (F : Flat) (s : KernelState) (l : LeftSeen) → bay_at s.memory.world.store.bays 8 ≡ bay_of swap → KernelLeaves F s l
     → IsSwapFor slots swap → IsSwapFor slots l.swap
@@ -246,12 +246,12 @@ module _ (F : Flat) (s t : KernelState) (l : LeftSeen) (since : IsSince s t no_s
 
   -- THE SWAP DISK has its size
   pub swap-left : SwapCameBack (bay_at s.memory.world.store.bays 8) l.swap
-  swap-left = by_swap l.swap c.swap ∙ since.sizes 8
+  swap-left = by_swap l.swap c.swap ∙ since.disks 8
     where
       by_swap : (o : Option DiskSeen) → MatchOption o (bay_at t.memory.world.store.bays 8 ≡ missing) (λ disk. bay_at t.memory.world.store.bays 8 ≡ home disk)
-          → option_map (λ (d : DiskSeen). d.size) o ≡ size_of t no_seats 8
-      by_swap None none = sym (ap (λ (b : BaySeen). seen_in (λ (d : DiskSeen). d.size) b no_notes) none)
-      by_swap (Some d) here = sym (ap (λ (b : BaySeen). seen_in (λ (d : DiskSeen). d.size) b no_notes) here)
+          → option_map disk_fixed o ≡ disk_there t no_seats 8
+      by_swap None none = sym (ap (λ (b : BaySeen). seen_in disk_fixed b no_notes) none)
+      by_swap (Some d) here = sym (ap (λ (b : BaySeen). seen_in disk_fixed b no_notes) here)
 
   -- THE DISKS OF THE FILES
   pub are-left : AreDisksOf l.files l.disks

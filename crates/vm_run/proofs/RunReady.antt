@@ -88,7 +88,7 @@ module _ (st : ℕ) (ft : Option RunFault) (g : Given) (o : Outside) (what : Ask
       (close-case st ft g o what files bytes a made plan k1 ready s l started left low later whole told front l.fault refl new how by-sink)
 
   -- memory lacked for its kernel
-  pub start-lacks : o.sink_new ≡ k1 → (IsTrue o.exact → AreUncounted (bare_disks a.disks) a.swap) → (H : HistorySeen) (d-new : List DiskSeen) (w-new : Option DiskSeen) (how : Ending) → H.entries ≡ [] → H.faults ≡ [] → how ≡ ending.Memory
+  pub start-lacks : o.sink_new ≡ k1 → (AreUncounted (bare_disks a.disks) a.swap) → (H : HistorySeen) (d-new : List DiskSeen) (w-new : Option DiskSeen) (how : Ending) → H.entries ≡ [] → H.faults ≡ [] → how ≡ ending.Memory
       → d-new ≡ bare_disks a.disks → w-new ≡ a.swap → CaseOf g o (wrote_before o) (record { status = st; fault = ft; history = H; disks = d-new; swap = w-new }) how
   start-lacks sink none H d-new w-new how entries counts is same-d same-w =
       let low = low-disks what.plan a.disks ready.placed.numbers in

@@ -1,7 +1,7 @@
 -- Files that are placed, once their disks were read for the trace.
 use Rattle.vm_run.proofs.StartedFlat.{infos-fresh as made-infos}
 use Rattle.std.proofs.Common.{◌≡◌, ℕ, zero, suc, ◌<◌, ◌==◌, ◌++◌, true, false, List, [], ◌∷◌, length, map, take, drop, append-nil, refl, sym, ap, ◌∙◌, subst, arith, inl, inr}
-use Rattle.std.specs.Prelude.{All, Bool, IfSome, IsSome, IsTrue, Err, Ok, Option, Some, None, option_map, slice_get, zip, if◌then◌else◌}
+use Rattle.std.specs.Prelude.{All, Bool, IfSome, IsSome, Err, Ok, Option, Some, None, option_map, slice_get, zip, if◌then◌else◌}
 use Rattle.std.specs.FinMap as finite
 use Rattle.std.specs.Map.{lookup}
 use Rattle.std.proofs.lemmas.Bool.{false≢true, ne_eqb}
@@ -275,7 +275,7 @@ module _ (st : ℕ) (ft : Option RunFault) (g : Given) (o : Outside) (what : Ask
   cause : (f : OpenFaultSeen) → IsCountedSince a.disks new (open_fault_counts f) → HasDiskCause what.plan (bare_disks new) a.swap f
   cause f c = if-counted ⊥ (λ x. IsCountedBy what.plan (bare_disks new) a.swap f.disk x.0 x.1) f.counts c.fault.risen (counted (open_fault_counts f) c)
 
-  pub traced-stop : (how : Ending) → (how ≡ ending.Memory → IsTrue o.exact → AreUncounted (bare_disks new) a.swap) → TraceStops what.options (numbered_plan files what.plan) files bytes o.sink_old o.sink_new a.disks new how → CaseOf g o (wrote_before o) stopped how
+  pub traced-stop : (how : Ending) → (how ≡ ending.Memory → AreUncounted (bare_disks new) a.swap) → TraceStops what.options (numbered_plan files what.plan) files bytes o.sink_old o.sink_new a.disks new how → CaseOf g o (wrote_before o) stopped how
   unfolding opened-so
   traced-stop ending.Memory none t = inr (inr (inl (record {
     what = what;
@@ -322,7 +322,7 @@ module _ (st : ℕ) (ft : Option RunFault) (g : Given) (o : Outside) (what : Ask
   traced-stop (ending.Checked x) none t = absurd t
 
   -- memory lacked behind the whole opening part
-  pub lacks-behind : (IsTrue o.exact → AreUncounted (bare_disks new) a.swap) → Wrote o.sink_old o.sink_new (opening_part what files (bare_disks new) bytes) → CaseOf g o (wrote_before o) stopped ending.Memory
+  pub lacks-behind : (AreUncounted (bare_disks new) a.swap) → Wrote o.sink_old o.sink_new (opening_part what files (bare_disks new) bytes) → CaseOf g o (wrote_before o) stopped ending.Memory
   unfolding opened-so
   lacks-behind none wrote = inr (inr (inl (record {
     what = what;
@@ -349,7 +349,7 @@ handed-swap seen (Some d) = refl
 pub stopped-tracing : (st : ℕ) (ft : Option RunFault) (g : Given) (o : Outside) (what : Asked) (files : List OpenedFile) (bytes : ℕ → List ℕ) → WasAsked g (Ok what) → (a b : AttachedSeen)
     (made : FilesSeen) → ArePlaced what.plan g.holds files a made → AreReadBytes files a.disks bytes → AreOnlyRead a.disks b.disks → b.swap ≡ a.swap → (k0 k1 : SinkSeen) → o.sink_old ≡ k0
     → o.sink_new ≡ k1 → (plan : PlanSeen) → plan ≡ numbered_plan files what.plan → (how : Ending) → TraceStops what.options plan files bytes k0 k1 a.disks b.disks how
-    → (how ≡ ending.Memory → IsTrue o.exact → AreUncounted (bare_disks b.disks) b.swap) → {D : Type 0}
+    → (how ≡ ending.Memory → AreUncounted (bare_disks b.disks) b.swap) → {D : Type 0}
     (seen : D → DiskSeen) (xs : List (NumberedDisk D)) (w : Option (NumberedDisk D)) → b.disks ≡ map (numbered_seen seen) xs
     → b.swap ≡ option_map (λ (d : NumberedDisk D). seen d.disk) w → (s : Stop D)
     → s.ending ≡ how → s.history.entries ≡ [] → s.history.faults ≡ [] → s.disks.items ≡ map (λ (d : NumberedDisk D). d.disk) xs → s.swap ≡ option_map (λ (d : NumberedDisk D). d.disk) w
@@ -358,7 +358,7 @@ stopped-tracing st ft g o what files bytes asked a b made p read r same k0 k1 be
     let low = low-disks what.plan a.disks p.numbers in
     let told : TraceStops what.options (numbered_plan files what.plan) files bytes o.sink_old o.sink_new a.disks b.disks how =
     rw (sym numbered, before, after) t in
-    let case = traced-stop st ft g o what files bytes asked a made p read b.disks r s.history entries counts low how (λ m x. subst (AreUncounted (bare_disks b.disks)) same (none m x)) told in
+    let case = traced-stop st ft g o what files bytes asked a made p read b.disks r s.history entries counts low how (λ m. subst (AreUncounted (bare_disks b.disks)) same (none m)) told in
     let back : map seen s.disks.items ≡ bare_disks b.disks = ap (map seen) disks ∙ handed-disks seen xs ∙ ap bare_disks (sym all) in
     let swapped : option_map seen s.swap ≡ a.swap = ap (option_map seen) swap ∙ handed-swap seen w ∙ sym last ∙ same in
     rw (is, back, swapped) case

@@ -17,7 +17,7 @@ use Rattle.volume_files.specs.vm_script.Counts.{entry_count}
 use Rattle.volume_files.specs.vm_script.PlanSeen.{PlanSeen}
 use Rattle.volume_files.specs.vm_script.Told.{Told, ToldFront, own_lines}
 use Rattle.volume_files.specs.flat_model.Shapes.{RefusesAsDue}
-use Rattle.vm_core.specs.vm_world.DiskPlaces.{seen_in}
+use Rattle.vm_core.specs.vm_world.DiskPlaces.{disk_fixed, seen_in}
 use Rattle.vm_core.specs.vm_world.Events.{FollowsHistory, IsSince}
 use Rattle.vm_core.specs.vm_world.Opening.{IsOpening, no_seats}
 use Rattle.vm_core.specs.vm_world.State.{KernelState, room_of, mode_of}
@@ -93,9 +93,9 @@ pub record DisksCameBack (old new : List (ℕ × DiskSeen)) : Type 0 where
   pub numbers : map (λ (d : ℕ × DiskSeen). d.0) new ≡ map (λ (d : ℕ × DiskSeen). d.0) old
   pub sizes : map (λ (d : ℕ × DiskSeen). d.1.size) new ≡ map (λ (d : ℕ × DiskSeen). d.1.size) old
 
--- The swap disk came back with its size, where there was one.
+-- The swap disk came back with its size and its kind, where there was one.
 abbrev pub SwapCameBack : BaySeen → Option DiskSeen → Type 0
-SwapCameBack old new = option_map (λ (d : DiskSeen). d.size) new ≡ seen_in (λ (d : DiskSeen). d.size) old no_notes
+SwapCameBack old new = option_map disk_fixed new ≡ seen_in disk_fixed old no_notes
 
 -- A fault that ended the closing: that of the last transfer of a disk, which had counted no fewer faults than the history tells.
 pub record IsClosingFault (l : LeftSeen) (f : DiskFault) : Type 0 where

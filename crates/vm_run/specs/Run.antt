@@ -35,8 +35,7 @@ use Rattle.volume_files.specs.Texts.{Wrote, WroteAndFront, WroteAndPart, WroteFr
 use Rattle.vm_run.specs.AskedTexts.{files_or_none, middle_text, trace_opening}
 use Rattle.vm_run.specs.TraceChecks.{WasChecked, WroteAnswer, StopsInAnswer}
 
--- What the outside has seen of a run: the counts of faults of source and rack before and after it, how many disks the rack had attached, the sink, and
--- whether the counts of the rack's disks rise by transfers that fail alone.
+-- What the outside has seen of a run: the counts of faults of source and rack before and after it, how many disks the rack had attached, and the sink.
 pub record Outside : Type 0 where
   pub source_old : ℕ
   pub source_new : ℕ
@@ -46,10 +45,9 @@ pub record Outside : Type 0 where
   pub attached_new : ℕ
   pub sink_old : SinkSeen
   pub sink_new : SinkSeen
-  pub exact : Bool
 
-abbrev pub outside_of : SourceSeen → SourceSeen → RackSeen → RackSeen → SinkSeen → SinkSeen → Bool → Outside
-outside_of s0 s1 r0 r1 k0 k1 exact = record {
+abbrev pub outside_of : SourceSeen → SourceSeen → RackSeen → RackSeen → SinkSeen → SinkSeen → Outside
+outside_of s0 s1 r0 r1 k0 k1 = record {
   source_old = s0.faults;
   source_new = s1.faults;
   rack_old = r0.faults;
@@ -58,7 +56,6 @@ outside_of s0 s1 r0 r1 k0 k1 exact = record {
   attached_new = r1.attached;
   sink_old = k0;
   sink_new = k1;
-  exact = exact;
 }
 
 -- What is said of a text and the last line behind it: as a run has ended, that the text was written, and the line as far as the sink took it; before its
@@ -265,7 +262,7 @@ pub record FailsToShow (g : Given) (W : Writing) (fault : DiskFault) (e : End) :
   pub none : course.what.options.make ≡ None
   pub wrote : W (opening_of course e ++ (middle_of course e ++ sections_before Report course.infos course.shown file page)) (last_line_of (ending.Showing fault))
 
--- Memory lacked before the processes ran, and no disk had failed, as far as their counts rise by failed transfers alone. No text was written, or a front of
+-- Memory lacked before the processes ran, and no disk had failed, as far as their counts tell. No text was written, or a front of
 -- the opening part of the trace.
 pub record LacksBare (o : Outside) (e : End) : Type 0 where
   pub none : HandsNone e.disks e.swap
@@ -277,7 +274,7 @@ pub record LacksOpening (g : Given) (o : Outside) (e : End) : Type 0 where
   pub asked : WasAsked g (Ok what)
   pub handed : HandsFront what.plan e.disks e.swap
   pub same : AreUntouched what.plan g.holds e.disks e.swap
-  pub counted : IsTrue o.exact → AreUncounted e.disks e.swap
+  pub counted : AreUncounted e.disks e.swap
   pub history : HasNoHistory e
   pub wrote : Wrote o.sink_old o.sink_new []
 
@@ -287,7 +284,7 @@ pub record LacksInTrace (g : Given) (o : Outside) (e : End) : Type 0 where
   pub bytes : ℕ → List ℕ
   pub opened : IsOpened g what files e
   pub written : WroteLines g what files opened.given e
-  pub counted : IsTrue o.exact → AreUncounted e.disks e.swap
+  pub counted : AreUncounted e.disks e.swap
   pub history : HasNoHistory e
   pub read : AreOpenedBytes g what files e bytes
   pub wrote : WroteFront o.sink_old o.sink_new (opening_part what files e.disks bytes)

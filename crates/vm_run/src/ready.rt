@@ -1,5 +1,5 @@
 //! A run up to the point where its processes can run.
-ghost use Rattle.std.specs.Prelude.{ℕ, ◌≡◌, ◌≤◌, ◌<◌, ◌+◌, ◌^◌, List, Option, map, string_bytes, IsTrue, IfOk, IfErr};
+ghost use Rattle.std.specs.Prelude.{ℕ, ◌≡◌, ◌≤◌, ◌<◌, ◌+◌, ◌^◌, List, Option, map, string_bytes, IfOk, IfErr};
 ghost use Rattle.volume_files.specs.block_device.declared.rack.Spec.{Spec};
 ghost use Rattle.vm_run.specs.Asked.{Given, Asked, WasAsked, given_of};
 ghost use Rattle.volume_files.specs.Attached.{AreAttached, ArePlaced, HasRooms, attached_seen, bare_disks, numbered_seen};
@@ -111,7 +111,7 @@ fn traced<D: Disk, K: Sink>(
     ensures later { (K.seen out.old).faults ≤ (K.seen out.new).faults }
     // Unless the sink or a disk failed, none counted a fault.
     ensures steady { UnlessEnded result ((K.seen out.new).faults ≡ (K.seen out.old).faults) }
-    ensures exact { IsTrue D.exact → UnlessEnded result
+    ensures failures { UnlessEnded result
         (AreUncounted (bare_disks (attached_seen D.seen placed.old.attached).disks)
         (attached_seen D.seen placed.old.attached).swap
         → AreUncounted (bare_disks (attached_seen D.seen placed.new.attached).disks)
@@ -144,7 +144,7 @@ pub fn make_ready<S: Source, K: Sink, R: Rack>(
     ensures err { IfErr result (HasCase
         (given_of (map string_bytes words.now) (S.seen script.old) (R.seen rack.old))
         (outside_of (S.seen script.old) (S.seen script.new)
-        (R.seen rack.old) (R.seen rack.new) (K.seen out.old) (K.seen out.new) R.D.exact)
+        (R.seen rack.old) (R.seen rack.new) (K.seen out.old) (K.seen out.new))
         R.D.seen) }
     // Each disk that the rack attached is there, or is handed back.
     ensures kept { IfOk result (λ r. (R.seen rack.new).attached ≡ (R.seen rack.old).attached
@@ -154,13 +154,13 @@ pub fn make_ready<S: Source, K: Sink, R: Rack>(
     // Where it is ready, or memory lacked, none counted a fault.
     ensures served { IfOk result (λ _. NoneFailed
         (outside_of (S.seen script.old) (S.seen script.new)
-        (R.seen rack.old) (R.seen rack.new) (K.seen out.old) (K.seen out.new) R.D.exact)) }
-    ensures uncounted { IsTrue R.D.exact → IfOk result (λ r.
+        (R.seen rack.old) (R.seen rack.new) (K.seen out.old) (K.seen out.new))) }
+    ensures uncounted { IfOk result (λ r.
         AreUncounted (bare_disks (attached_seen R.D.seen r.placed.attached).disks)
         (attached_seen R.D.seen r.placed.attached).swap) }
     ensures lacks { IfErr result (λ s. s.ending ≡ Memory → NoneFailed
         (outside_of (S.seen script.old) (S.seen script.new)
-        (R.seen rack.old) (R.seen rack.new) (K.seen out.old) (K.seen out.new) R.D.exact)) }
+        (R.seen rack.old) (R.seen rack.new) (K.seen out.old) (K.seen out.new))) }
     // No count falls.
     ensures source { (S.seen script.old).faults ≤ (S.seen script.new).faults }
     ensures rack { (R.seen rack.old).faults ≤ (R.seen rack.new).faults }
@@ -195,7 +195,7 @@ fn ready_plan<K: Sink, R: Rack>(
         → g.holds ≡ (R.seen rack.old).holds
         → WasAsked g (Ok (record { options = options; plan = plan }))
         → o.rack_old ≡ (R.seen rack.old).faults → o.rack_new ≡ (R.seen rack.new).faults
-        → o.sink_old ≡ K.seen out.old → o.sink_new ≡ K.seen out.new → o.exact ≡ R.D.exact
+        → o.sink_old ≡ K.seen out.old → o.sink_new ≡ K.seen out.new
         → HasCase g o R.D.seen s) }
     // Each disk that the rack attached is there, or is handed back.
     ensures kept { IfOk result (λ r. (R.seen rack.new).attached ≡ (R.seen rack.old).attached
@@ -206,7 +206,7 @@ fn ready_plan<K: Sink, R: Rack>(
     ensures served { IfOk result (λ _.
         ((R.seen rack.new).faults ≡ (R.seen rack.old).faults)
         × ((K.seen out.new).faults ≡ (K.seen out.old).faults)) }
-    ensures uncounted { IsTrue R.D.exact → IfOk result (λ r.
+    ensures uncounted { IfOk result (λ r.
         AreUncounted (bare_disks (attached_seen R.D.seen r.placed.attached).disks)
         (attached_seen R.D.seen r.placed.attached).swap) }
     ensures lacks { IfErr result (λ s. s.ending ≡ Memory

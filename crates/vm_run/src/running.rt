@@ -1,5 +1,5 @@
 //! The top call.
-ghost use Rattle.std.specs.Prelude.{ℕ, ◌≡◌, ◌≤◌, ◌+◌, IsTrue, List, map, string_bytes};
+ghost use Rattle.std.specs.Prelude.{ℕ, ◌≡◌, ◌≤◌, ◌+◌, List, map, string_bytes};
 ghost use Rattle.volume_files.specs.block_device.StreamSeen.{SinkSeen};
 ghost use Rattle.vm_run.specs.Asked.{Given, Asked, given_of};
 ghost use Rattle.volume_files.specs.Attached.{HasRooms, attached_seen, bare_disks};
@@ -35,13 +35,13 @@ pub fn run<T: Threads + Wait + Sync, S: Source, K: Sink, R: Rack>(
     ensures ends { RunEnds
         (given_of (map string_bytes words.now) (S.seen script.old) (R.seen rack.old))
         (outside_of (S.seen script.old) (S.seen script.new)
-        (R.seen rack.old) (R.seen rack.new) (K.seen out.old) (K.seen out.new) R.D.exact)
+        (R.seen rack.old) (R.seen rack.new) (K.seen out.old) (K.seen out.new))
         (end_of R.D.seen result) }
     // Nothing failed: the whole report, or want of memory.
     ensures complete { IsComplete
         (given_of (map string_bytes words.now) (S.seen script.old) (R.seen rack.old))
         (outside_of (S.seen script.old) (S.seen script.new)
-        (R.seen rack.old) (R.seen rack.new) (K.seen out.old) (K.seen out.new) R.D.exact)
+        (R.seen rack.old) (R.seen rack.new) (K.seen out.old) (K.seen out.new))
         (end_of R.D.seen result) }
 {
     let stop = course(rt, alloc, words, script, out, rack);
@@ -60,12 +60,12 @@ fn course<T: Threads + Wait + Sync, S: Source, K: Sink, R: Rack>(
     ensures ends { HasCase
         (given_of (map string_bytes words.now) (S.seen script.old) (R.seen rack.old))
         (outside_of (S.seen script.old) (S.seen script.new)
-        (R.seen rack.old) (R.seen rack.new) (K.seen out.old) (K.seen out.new) R.D.exact)
+        (R.seen rack.old) (R.seen rack.new) (K.seen out.old) (K.seen out.new))
         R.D.seen result }
     // Want of memory hides no failure.
     ensures hides { result.ending ≡ Memory → NoneFailed
         (outside_of (S.seen script.old) (S.seen script.new)
-        (R.seen rack.old) (R.seen rack.new) (K.seen out.old) (K.seen out.new) R.D.exact) }
+        (R.seen rack.old) (R.seen rack.new) (K.seen out.old) (K.seen out.new)) }
     ensures back { (R.seen rack.new).attached
         ≡ (R.seen rack.old).attached + handed_count result.disks.items result.swap }
     ensures sink { (K.seen out.old).faults ≤ (K.seen out.new).faults }
@@ -92,9 +92,8 @@ fn run_ready<T: Threads + Wait + Sync, D: Disk + Send, K: Sink>(
         → IsReady g o.sink_old (K.seen out.old) what files bytes
         (attached_seen D.seen ready.placed.attached) ready.placed.files ready.plan
         → o.sink_old.faults ≤ (K.seen out.old).faults → o.sink_new ≡ K.seen out.new
-        → (IsTrue o.exact
         → AreUncounted (bare_disks (attached_seen D.seen ready.placed.attached).disks)
-        (attached_seen D.seen ready.placed.attached).swap)
+        (attached_seen D.seen ready.placed.attached).swap
         → HasCase g o D.seen result }
     // Want of memory hides no failure.
     ensures hides { result.ending ≡ Memory → (K.seen out.new).faults ≡ (K.seen out.old).faults }

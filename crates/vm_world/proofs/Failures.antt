@@ -164,7 +164,7 @@ rule-fails s new cut pending seat p call sent f calls syncs step tails for_call 
           (record { count = f.disk.faults; there = ap (λ b. faults_in b (notes_of (with_sent seats seat None))) comes.disk; enough = omega arith }))
           locks starts;
       fixed = ap (λ (n : ℕ). record (fixed_of (after_step s new pending)) { seats = n }) count ∙ event.fixed;
-      sizes = event.sizes;
+      disks = event.disks;
       grown = (io_entry p call f.number f.before f.disk.faults pending ∷ [], refl, All-cons (λ (x : Entry). seat_of x.process ≡ seat) (io_entry p call f.number f.before f.disk.faults pending) [] own (All-nil (λ (x : Entry). seat_of x.process ≡ seat)));
       follows = λ opening was. follows-entry opening (after_step s new pending) (with_entry_made (after_step s new pending) (io_entry p call f.number f.before f.disk.faults pending) calls syncs) (io_entry p call f.number f.before f.disk.faults pending) refl
           (λ notes. refl) (λ own. absurd (let z : true ≡ false = own in cc)) (event.follows opening was);

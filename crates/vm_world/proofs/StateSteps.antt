@@ -7,7 +7,7 @@ use Rattle.std.proofs.lemmas.Bool.Decides.{eqb_tells}
 use Rattle.std.proofs.lemmas.List.{append-nil, length-map, get_or-set_same, get_or-set_other}
 use Rattle.std.proofs.lemmas.List.Elements.{All-nil}
 use Rattle.flat_model.specs.vm_types.declared.call.Entry.{Entry}
-use Rattle.page_store.specs.block_device.DiskSeen.{DiskSeen}
+use Rattle.page_store.specs.block_device.DiskSeen.{DiskKind, DiskSeen}
 use Rattle.page_store.specs.page_hash.declared.PageName.{PageName}
 use Rattle.page_store.specs.Bays.{BaySeen, missing, home, out, bay_at}
 use Rattle.page_store.specs.Flight.{FlightSeen}
@@ -20,7 +20,7 @@ use Rattle.flat_model.specs.Step.{is_bit_set}
 use Rattle.vm_world.specs.World.{World, AllTell}
 use Rattle.vm_world.specs.Pages.{contents_of}
 use Rattle.vm_world.specs.FlatMemory.{flat_memory, shape_of}
-use Rattle.vm_world.specs.DiskPlaces.{HasCounted, KeepSizes, faults_in, seen_in, seen_of_note}
+use Rattle.vm_world.specs.DiskPlaces.{HasCounted, SameDisks, disk_fixed, faults_in, seen_in, seen_of_note}
 use Rattle.vm_world.specs.HistoryFits.{HistoryFits, FaultsFit}
 use Rattle.vm_world.specs.MemoryFits.{MemoryFits}
 use Rattle.vm_world.specs.NotesFit.{NotesFit}
@@ -64,15 +64,15 @@ other-seat seats seat k sent far = elim (eqb_tells k seat) [ inl y ↦ absurd (f
 pub this-seat : (seats : Seats) (seat : ℕ) (sent : Option Sent) → with_sent seats seat sent seat ≡ sent
 this-seat seats seat sent = elim (eqb_tells seat seat) [ inl y ↦ ap (λ (b : Bool). cond b sent (seats seat)) y.0 | inr n ↦ absurd (n.1 refl) ]
 
--- the size of the disk of a number, wherever it is
-abbrev pub size_of : KernelState → Seats → ℕ → Option ℕ
-size_of s seats number = seen_in (λ disk. disk.size) (bay_at s.memory.world.store.bays number) (notes_of seats)
+-- the size and the kind of the disk of a number, wherever it is
+abbrev pub disk_there : KernelState → Seats → ℕ → Option (ℕ × DiskKind)
+disk_there s seats number = seen_in disk_fixed (bay_at s.memory.world.store.bays number) (notes_of seats)
 
 -- no disk moves
-pub sizes-still : (s t : KernelState) (seat : ℕ) (sent : Option Sent) → t.memory.world.store.bays ≡ s.memory.world.store.bays → (seats : Seats) → seats seat ≡ sent
-    → KeepSizes s.memory.world.store.bays (notes_of seats) t.memory.world.store.bays (notes_of (with_sent seats seat sent))
-sizes-still s t seat sent bays seats is number =
-    ap (λ (x : Seats). size_of t x number) (same-seats seats seat sent is) ∙ ap (λ (b : List BaySeen). seen_in (λ disk. disk.size) (bay_at b number) (notes_of seats)) bays
+pub disks-still : (s t : KernelState) (seat : ℕ) (sent : Option Sent) → t.memory.world.store.bays ≡ s.memory.world.store.bays → (seats : Seats) → seats seat ≡ sent
+    → SameDisks s.memory.world.store.bays (notes_of seats) t.memory.world.store.bays (notes_of (with_sent seats seat sent))
+disks-still s t seat sent bays seats is number =
+    ap (λ (x : Seats). disk_there t x number) (same-seats seats seat sent is) ∙ ap (λ (b : List BaySeen). seen_in disk_fixed (bay_at b number) (notes_of seats)) bays
 
 module _ (s : KernelState) (new : World) (trip : Trip) (cut : PageName → Bool) (pending : ℕ) (step : WorldStep s.memory.world new s.memory.spaces trip cut) (tails : PendsTails s.memory.world cut s.pending pending) where
   fixed-same : fixed_of (after_step s new pending) ≡ fixed_of s
@@ -141,7 +141,7 @@ pub rule-calm : (s : KernelState) (new : World) (cut : PageName → Bool) (pendi
 rule-calm s new cut pending seat sent step tails = record {
   fits = λ opening seats is fit. subst (λ (x : Seats). StateFits opening (after_step s new pending) x) (sym (same-seats seats seat sent is)) (calm-state s new cut pending step tails opening seats fit);
   fixed = fixed-same s new stays cut pending step tails;
-  sizes = λ opening seats is fit. sizes-still s (after_step s new pending) seat sent step.bays seats is;
+  disks = λ opening seats is fit. disks-still s (after_step s new pending) seat sent step.bays seats is;
   grown = no-entries s.history seat;
   follows = λ opening was. follows-kept opening s new pending step.tables was;
 }
@@ -152,7 +152,7 @@ pub rule-plans : (s : KernelState) (new : World) (cut : PageName → Bool) (pend
 rule-plans s new cut pending kept step tails runs seated may = record {
   fits = λ opening seats is fit. subst (λ (x : Seats). StateFits opening (record (after_step s new pending) { plan = Some kept }) x) (sym (same-seats seats kept.seat None is)) (state opening seats is fit);
   fixed = fixed-same s new stays cut pending step tails;
-  sizes = λ opening seats is fit. sizes-still s (record (after_step s new pending) { plan = Some kept }) kept.seat None step.bays seats is;
+  disks = λ opening seats is fit. disks-still s (record (after_step s new pending) { plan = Some kept }) kept.seat None step.bays seats is;
   grown = no-entries s.history kept.seat;
   follows = λ opening was. let f = follows-kept opening s new pending step.tables was in record { shape = f.shape; refusals = f.refusals };
 }
@@ -186,7 +186,7 @@ rule-plans s new cut pending kept step tails runs seated may = record {
         }
 
 -- what is seen of the disks as one leaves: the note has it
-module _ (seen : DiskSeen → ℕ) (bays new : List BaySeen) (notes : Notes) (seat : ℕ) (note : Note) (idle : notes seat ≡ None) (noted : (k t : ℕ) → bay_at bays k ≡ out t → IsSome (notes t))
+module _ {X : Type 0} (seen : DiskSeen → X) (bays new : List BaySeen) (notes : Notes) (seat : ℕ) (note : Note) (idle : notes seat ≡ None) (noted : (k t : ℕ) → bay_at bays k ≡ out t → IsSome (notes t))
     (was : bay_at bays note.number ≡ home note.disk) (set : new ≡ slice_set bays note.number (out seat)) where
   this-note : (m : Option Note) → with_note notes seat m seat ≡ m
   this-note m = elim (eqb_tells seat seat) [ inl y ↦ ap (λ (b : Bool). cond b m (notes seat)) y.0 | inr n ↦ absurd (n.1 refl) ]
@@ -239,10 +239,10 @@ rule-begins s new cut pending seat sent kept step tails plan mine of_is = record
         | inr ne ↦ fit.plans.sent k x of (sym (other-seat seats seat k (Some sent) ne) ∙ at) for_call
       ]) fit;
   fixed = fixed-same s new (leaves seat sent.note) cut pending step tails;
-  sizes = λ opening seats is fit number.
+  disks = λ opening seats is fit number.
       let idle : notes_of seats seat ≡ None = ap (option_map (λ (x : Sent). x.note)) is in
-      ap (λ (n : Notes). seen_in (λ disk. disk.size) (bay_at new.store.bays number) n) (notes-with seats seat (Some sent))
-      ∙ seen-leaves (λ disk. disk.size) s.memory.world.store.bays new.store.bays (notes_of seats) seat sent.note idle (noted opening seats fit) step.bays.0 step.bays.1 number;
+      ap (λ (n : Notes). seen_in disk_fixed (bay_at new.store.bays number) n) (notes-with seats seat (Some sent))
+      ∙ seen-leaves disk_fixed s.memory.world.store.bays new.store.bays (notes_of seats) seat sent.note idle (noted opening seats fit) step.bays.0 step.bays.1 number;
   grown = no-entries s.history seat;
   follows = λ opening was. follows-kept opening s new pending step.tables was;
 }
@@ -251,7 +251,7 @@ rule-begins s new cut pending seat sent kept step tails plan mine of_is = record
     noted opening seats fit k t at = let b = fit.notes.stored.each_bay k t at in ap is_some b.1
 
 -- what is seen of the disks as one comes back
-module _ (seen : DiskSeen → ℕ) (bays new : List BaySeen) (notes : Notes) (seat : ℕ) (note : Note) (d : DiskSeen) (noted : notes seat ≡ Some note) (one : (k : ℕ) → bay_at bays k ≡ out seat → k ≡ note.number)
+module _ {X : Type 0} (seen : DiskSeen → X) (bays new : List BaySeen) (notes : Notes) (seat : ℕ) (note : Note) (d : DiskSeen) (noted : notes seat ≡ Some note) (one : (k : ℕ) → bay_at bays k ≡ out seat → k ≡ note.number)
     (was : bay_at bays note.number ≡ out seat) (set : new ≡ slice_set bays note.number (home d)) where
   seen-noted : (disk : ℕ) → disk ≡ note.number → seen_in seen (bay_at bays disk) notes ≡ Some (seen note.disk)
   seen-noted disk here = ap (λ (k : ℕ). seen_in seen (bay_at bays k) notes) here ∙ ap (λ (b : BaySeen). seen_in seen b notes) was ∙ ap (seen_of_note seen) noted
@@ -320,10 +320,10 @@ rule-ends s new cut pending seat sent f step tails comes = record {
         | inr ne ↦ fit.plans.sent k x of (sym (other-seat seats seat k None ne) ∙ at) for_call
       ]) fit;
   fixed = fixed-same s new (returns seat sent.note) cut pending step tails;
-  sizes = λ opening seats is fit number.
+  disks = λ opening seats is fit number.
       let noted : notes_of seats seat ≡ Some sent.note = ap (option_map (λ (x : Sent). x.note)) is in
-      ap (λ (n : Notes). seen_in (λ disk. disk.size) (bay_at new.store.bays number) n) (notes-with seats seat None)
-      ∙ seen-returns (λ disk. disk.size) s.memory.world.store.bays new.store.bays (notes_of seats) seat sent.note step.bays.1.0 noted (λ k at. one-disk opening seats fit noted k at) step.bays.0 step.bays.1.1 size number;
+      ap (λ (n : Notes). seen_in disk_fixed (bay_at new.store.bays number) n) (notes-with seats seat None)
+      ∙ seen-returns disk_fixed s.memory.world.store.bays new.store.bays (notes_of seats) seat sent.note step.bays.1.0 noted (λ k at. one-disk opening seats fit noted k at) step.bays.0 step.bays.1.1 unchanged number;
   grown = no-entries s.history seat;
   follows = λ opening was. follows-kept opening s new pending step.tables was;
 }
@@ -343,8 +343,8 @@ rule-ends s new cut pending seat sent f step tails comes = record {
     most : step.bays.1.0.faults ≤ top_count
     most = subst (λ (d : DiskSeen). d.faults ≤ top_count) (sym same) comes.most
 
-    size : step.bays.1.0.size ≡ sent.note.disk.size
-    size = ap (λ (d : DiskSeen). d.size) same ∙ comes.performed.size
+    unchanged : disk_fixed step.bays.1.0 ≡ disk_fixed sent.note.disk
+    unchanged = ap disk_fixed same ∙ (λ i. (comes.performed.size i, comes.performed.kind i))
 
     one-disk : (opening : Flat) (seats : Seats) → StateFits opening s seats → notes_of seats seat ≡ Some sent.note → (k : ℕ) → bay_at s.memory.world.store.bays k ≡ out seat → k ≡ sent.note.number
     one-disk opening seats fit noted k at =

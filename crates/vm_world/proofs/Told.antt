@@ -24,7 +24,7 @@ use Rattle.vm_world.specs.Opening.{no_seats}
 use Rattle.vm_world.specs.State.{KernelState, KeptPlan, Seats, Sent, notes_of, seat_of, seats_of, with_sent}
 use Rattle.vm_world.specs.StateFits.{StateFits}
 use Rattle.vm_world.specs.Wants.{HoldsUp, seat_in}
-use Rattle.vm_world.proofs.StateSteps.{no-entries, same-seats, this-seat, size_of, sizes-still}
+use Rattle.vm_world.proofs.StateSteps.{no-entries, same-seats, this-seat, disk_there, disks-still}
 
 -- a page that is moving has a frame whose lock the seat holds
 moving : (s : StoreSeen) (name : PageName) (seat : ℕ) → residence s name ≡ Moving seat → (frame : ℕ) × ((row_at s.rows frame).holder ≡ Some seat)
@@ -78,14 +78,14 @@ none-out (suc n) (suc k) = none-out n k
 
 -- WHAT EVENTS KEEP
 opens : (s : KernelState) → (F : Flat) × StateFits F s no_seats → IsSince s s no_seats
-opens s fits = record { starts = fits; fits = λ F fit. fit; fixed = refl; sizes = λ number. refl; follows = λ F was. was }
+opens s fits = record { starts = fits; fits = λ F fit. fit; fixed = refl; disks = λ number. refl; follows = λ F was. was }
 
 since : (opening s t : KernelState) (seats : Seats) (seat : ℕ) (before after : Option Sent) → IsSince opening s seats → seats seat ≡ before → IsEvent seat s before t after → IsSince opening t (with_sent seats seat after)
 since opening s t seats seat before after was at event = record {
   starts = was.starts;
   fits = λ F fit. event.fits F seats at (was.fits F fit);
   fixed = event.fixed ∙ was.fixed;
-  sizes = λ number. event.sizes was.starts.0 seats at (was.fits was.starts.0 was.starts.1) number ∙ was.sizes number;
+  disks = λ number. event.disks was.starts.0 seats at (was.fits was.starts.0 was.starts.1) number ∙ was.disks number;
   follows = λ F has. event.follows F (was.follows F has);
 }
 
@@ -94,7 +94,7 @@ rests : (seat : ℕ) (s : KernelState) (sent : Option Sent) → IsEvent seat s s
 rests seat s sent = record {
   fits = λ opening seats is fit. subst (λ (x : Seats). StateFits opening s x) (sym (same-seats seats seat sent is)) fit;
   fixed = refl;
-  sizes = λ opening seats is fit. sizes-still s s seat sent refl seats is;
+  disks = λ opening seats is fit. disks-still s s seat sent refl seats is;
   grown = no-entries s.history seat;
   follows = λ opening was. record { shape = was.shape; refusals = was.refusals };
 }
@@ -112,9 +112,9 @@ pub event-then : (seat : ℕ) (s t u : KernelState) (before mid after : Option S
 event-then seat s t u before mid after a b = record {
   fits = λ opening seats is fit. subst (λ (x : Seats). StateFits opening u x) (sent-twice seats seat mid after) (b.fits opening (with_sent seats seat mid) (this-seat seats seat mid) (a.fits opening seats is fit));
   fixed = b.fixed ∙ a.fixed;
-  sizes = λ opening seats is fit number.
-      let later = b.sizes opening (with_sent seats seat mid) (this-seat seats seat mid) (a.fits opening seats is fit) number in
-      subst (λ (x : Seats). size_of u x number ≡ size_of t (with_sent seats seat mid) number) (sent-twice seats seat mid after) later ∙ a.sizes opening seats is fit number;
+  disks = λ opening seats is fit number.
+      let later = b.disks opening (with_sent seats seat mid) (this-seat seats seat mid) (a.fits opening seats is fit) number in
+      subst (λ (x : Seats). disk_there u x number ≡ disk_there t (with_sent seats seat mid) number) (sent-twice seats seat mid after) later ∙ a.disks opening seats is fit number;
   grown = (
     a.grown.0 ++ b.grown.0,
     b.grown.1 ∙ ap (λ (H : List Entry). H ++ b.grown.0) a.grown.1 ∙ append_assoc s.history a.grown.0 b.grown.0,
@@ -141,7 +141,7 @@ forgets-plan seat s sent = record {
     };
   });
   fixed = refl;
-  sizes = λ opening seats is fit. sizes-still s (record s { plan = None }) seat sent refl seats is;
+  disks = λ opening seats is fit. disks-still s (record s { plan = None }) seat sent refl seats is;
   grown = no-entries s.history seat;
   follows = λ opening was. record { shape = was.shape; refusals = was.refusals };
 }

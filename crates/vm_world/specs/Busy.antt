@@ -7,7 +7,7 @@ use Rattle.flat_model.specs.vm_types.declared.call.Object.TheVariants as object
 use Rattle.addr_space.specs.Space.{Part}
 use Rattle.anon_map.specs.Maps.{Map}
 use Rattle.anon_slots.specs.Slots.{AnonSlotsSeen}
-use Rattle.page_store.specs.block_device.DiskSeen.{DiskSeen}
+use Rattle.page_store.specs.block_device.DiskSeen.{DiskSeen, one_disk}
 use Rattle.hat_layer.specs.Pool.{HatSeen}
 use Rattle.page_store.specs.page_clock.Clock.{fresh_clock}
 use Rattle.page_store.specs.page_lock.Rows.{clear_row}
@@ -62,7 +62,7 @@ busy_memory page = record { world = record { store = busy_store page; anon = bus
 
 -- The swap disk, which tells its three blocks.
 abbrev pub busy_disk : Page → DiskSeen
-busy_disk page = record { content = Some (page ∷ page ∷ page ∷ []); size = 3; faults = 0; calls = 0 }
+busy_disk page = record { content = Some (page ∷ page ∷ page ∷ []); size = 3; kind = one_disk; faults = 0; calls = 0 }
 
 -- What seat 1 has outside: the second page, to be written, for the clock.
 abbrev pub busy_note : Page → Note

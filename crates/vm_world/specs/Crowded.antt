@@ -12,7 +12,7 @@ use Rattle.flat_model.specs.vnode_files.Files.{FilesSeen}
 use Rattle.addr_space.specs.Space.{Part}
 use Rattle.anon_map.specs.Maps.{Map}
 use Rattle.anon_slots.specs.Slots.{AnonSlotsSeen}
-use Rattle.page_store.specs.block_device.DiskSeen.{DiskSeen}
+use Rattle.page_store.specs.block_device.DiskSeen.{DiskSeen, one_disk}
 use Rattle.hat_layer.specs.Pool.{HatSeen}
 use Rattle.page_store.specs.page_clock.Clock.{fresh_clock}
 use Rattle.page_store.specs.page_lock.Rows.{clear_row}
@@ -66,7 +66,7 @@ crowded_files = record {
 
 -- Each disk has the page in all of its blocks.
 abbrev pub crowded_disk : List Page → ℕ → DiskSeen
-crowded_disk pages size = record { content = Some pages; size = size; faults = 0; calls = 0 }
+crowded_disk pages size = record { content = Some pages; size = size; kind = one_disk; faults = 0; calls = 0 }
 
 -- Four frames. Page 0 of file 0 is home and modified; its page 1 lost its frame. Page 0 of file 1 is home and modified, while a snapshot of it is away
 -- with seat 1, and disk 1 too; it was written since. Frame 3 is away with seat 2, with a page that is gone, and the swap disk too.

@@ -12,7 +12,7 @@ use Rattle.flat_model.specs.OpenLaws.{MayFollow}
 use Rattle.flat_model.specs.Shapes.{RefusesAsDue, SameShape}
 use Rattle.flat_model.specs.Told.{entries_of}
 use Rattle.page_store.specs.Notes.{Notes}
-use Rattle.vm_world.specs.DiskPlaces.{KeepSizes}
+use Rattle.vm_world.specs.DiskPlaces.{SameDisks}
 use Rattle.vm_world.specs.FlatMemory.{flat_memory}
 use Rattle.vm_world.specs.Opening.{no_seats}
 use Rattle.vm_world.specs.State.{KernelState, Seats, Sent, notes_of, with_sent, fixed_of, seat_of, process_parent, room_of}
@@ -25,23 +25,23 @@ pub record FollowsHistory (opening : Flat) (s : KernelState) : Type 0 where
   pub refusals : RefusesAsDue opening s.history
 
 -- THE EVENT. Whatever the opening and the other seats are: where a state fits with what a seat had outside, the next one fits with what the seat has
--- then. What is fixed stays, each disk has its size, wherever it is, and the history grew by entries of the seat's process alone. And whatever disks
+-- then. What is fixed stays, each disk has its size and its kind, wherever it is, and the history grew by entries of the seat's process alone. And whatever disks
 -- tell, the state follows its history.
 pub record IsEvent (seat : ℕ) (s : KernelState) (before : Option Sent) (t : KernelState) (after : Option Sent) : Type 0 where
   pub fits : (opening : Flat) (seats : Seats) → seats seat ≡ before → StateFits opening s seats → StateFits opening t (with_sent seats seat after)
   pub fixed : fixed_of t ≡ fixed_of s
-  pub sizes : (opening : Flat) (seats : Seats) → seats seat ≡ before → StateFits opening s seats
-      → KeepSizes s.memory.world.store.bays (notes_of seats) t.memory.world.store.bays (notes_of (with_sent seats seat after))
+  pub disks : (opening : Flat) (seats : Seats) → seats seat ≡ before → StateFits opening s seats
+      → SameDisks s.memory.world.store.bays (notes_of seats) t.memory.world.store.bays (notes_of (with_sent seats seat after))
   pub grown : (added : List Entry) × (t.history ≡ s.history ++ added) × All (λ (e : Entry). seat_of e.process ≡ seat) added
   pub follows : (opening : Flat) → FollowsHistory opening s → FollowsHistory opening t
 
 -- WHAT EVENTS KEEP, whoever makes them. The opening fits some flat memory with nothing outside; and whichever it fits, the state fits with what the seats have
--- outside. What is fixed stays, each disk has its size, wherever it is, and the state follows its history.
+-- outside. What is fixed stays, each disk has its size and its kind, wherever it is, and the state follows its history.
 pub record IsSince (opening s : KernelState) (seats : Seats) : Type 0 where
   pub starts : (F : Flat) × StateFits F opening no_seats
   pub fits : (F : Flat) → StateFits F opening no_seats → StateFits F s seats
   pub fixed : fixed_of s ≡ fixed_of opening
-  pub sizes : KeepSizes opening.memory.world.store.bays (notes_of no_seats) s.memory.world.store.bays (notes_of seats)
+  pub disks : SameDisks opening.memory.world.store.bays (notes_of no_seats) s.memory.world.store.bays (notes_of seats)
   pub follows : (F : Flat) → FollowsHistory F opening → FollowsHistory F s
 
 -- A Fork's child is a child of this process that was never alive.

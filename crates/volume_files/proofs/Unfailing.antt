@@ -1,8 +1,8 @@
 -- Where nothing failed, no count rose.
-use Rattle.std.proofs.Common.{◌≡◌, ℕ, zero, suc, List, [], ◌∷◌, ◌++◌, map, get_or, set, refl, sym, ap, ◌∙◌, subst}
-use Rattle.std.specs.Prelude.{All, Option, None, Some, Result, Ok, Err, option_map}
+use Rattle.std.proofs.Common.{◌≡◌, ℕ, zero, suc, Bool, true, false, List, [], ◌∷◌, ◌++◌, map, get_or, set, refl, sym, ap, ◌∙◌, subst}
+use Rattle.std.specs.Prelude.{All, IfSome, if◌then◌else◌, Option, None, Some, Result, Ok, Err, option_map}
 use Rattle.std.proofs.lemmas.List.Elements.{All-nil, All-cons, All-head, All-tail}
-use Rattle.block_device.specs.DiskSeen.{DiskSeen}
+use Rattle.block_device.specs.DiskSeen.{DiskSeen, failures_told}
 use Rattle.volume_files.specs.declared.showing.ShowStop.{ShowStop}
 use Rattle.volume_files.specs.declared.showing.ShowStop.TheVariants as show
 use Rattle.volume_files.specs.declared.stops.OpenStop.{OpenStop}
@@ -51,24 +51,36 @@ where-lacked {T} {P} r e is memory p = subst (λ (x : Result T OpenStop). Unless
 -- ---- counts of lists of disks
 
 -- one disk was replaced by one with its count
-pub counts-set : {X : Type 0} (f : X → ℕ × DiskSeen) (xs : List X) (i : ℕ) (z x : X) → (f x).1.faults ≡ (f (get_or xs i z)).1.faults
+pub counts-set : {X : Type 0} (f : X → ℕ × DiskSeen) (xs : List X) (i : ℕ) (z x : X) → failures_told (f x).1 ≡ failures_told (f (get_or xs i z)).1
     → counts_of (map f (set xs i x)) ≡ counts_of (map f xs)
 counts-set f [] zero z x same = refl
 counts-set f [] (suc i) z x same = refl
 counts-set f (y ∷ ys) zero z x same = ap (λ (n : ℕ). n ∷ counts_of (map f ys)) same
-counts-set f (y ∷ ys) (suc i) z x same = ap (λ (l : List ℕ). (f y).1.faults ∷ l) (counts-set f ys i z x same)
+counts-set f (y ∷ ys) (suc i) z x same = ap (λ (l : List ℕ). failures_told (f y).1 ∷ l) (counts-set f ys i z x same)
 
 abbrev Uncounted : DiskSeen → Type 0
-Uncounted d = d.faults ≡ 0
+Uncounted d = failures_told d ≡ 0
 
--- no disk counted a fault, with the same counts
+-- a disk that counted no fault tells no failure
+pub none-told : (d : DiskSeen) → d.faults ≡ 0 → failures_told d ≡ 0
+none-told d none = at d.kind.exact
+  where
+    at : (b : Bool) → (if b then d.faults else 0) ≡ 0
+    at true = none
+    at false = refl
+
+pub swap-told : (o : Option DiskSeen) → IfSome o (λ d. d.faults ≡ 0) → IfSome o (λ d. failures_told d ≡ 0)
+swap-told None none = tt
+swap-told (Some d) none = none-told d none
+
+-- no disk tells a failure, where each tells as many as before
 pub zero-still : (old new : List (ℕ × DiskSeen)) → counts_of new ≡ counts_of old → All Uncounted (bare_disks old) → All Uncounted (bare_disks new)
 zero-still [] [] same none = none
-zero-still [] (e ∷ new) same none = absurd (let z : ◌≡◌ {A = List ℕ} (e.1.faults ∷ counts_of new) [] = same in cc)
-zero-still (d ∷ old) [] same none = absurd (let z : ◌≡◌ {A = List ℕ} [] (d.1.faults ∷ counts_of old) = same in cc)
+zero-still [] (e ∷ new) same none = absurd (let z : ◌≡◌ {A = List ℕ} (failures_told e.1 ∷ counts_of new) [] = same in cc)
+zero-still (d ∷ old) [] same none = absurd (let z : ◌≡◌ {A = List ℕ} [] (failures_told d.1 ∷ counts_of old) = same in cc)
 zero-still (d ∷ old) (e ∷ new) same none =
-    let z : ◌≡◌ {A = List ℕ} (e.1.faults ∷ counts_of new) (d.1.faults ∷ counts_of old) = same in
-    let first : e.1.faults ≡ d.1.faults = cc in
+    let z : ◌≡◌ {A = List ℕ} (failures_told e.1 ∷ counts_of new) (failures_told d.1 ∷ counts_of old) = same in
+    let first : failures_told e.1 ≡ failures_told d.1 = cc in
     let rest : counts_of new ≡ counts_of old = cc in
     All-cons Uncounted e.1 (bare_disks new) (first ∙ All-head Uncounted d.1 (bare_disks old) none) (zero-still old new rest (All-tail Uncounted d.1 (bare_disks old) none))
 
@@ -79,13 +91,13 @@ bare-none (d ∷ disks) none =
     All-cons Uncounted d.1 (bare_disks disks) (All-head (λ (x : ℕ × DiskSeen). Uncounted x.1) d disks none) (bare-none disks (All-tail (λ (x : ℕ × DiskSeen). Uncounted x.1) d disks none))
 
 -- one more, which counted none
-none-push : {X : Type 0} (f : X → ℕ × DiskSeen) (xs : List X) (x : X) → (f x).1.faults ≡ 0 → NoneCounted (map f xs) → NoneCounted (map f (xs ++ x ∷ []))
+none-push : {X : Type 0} (f : X → ℕ × DiskSeen) (xs : List X) (x : X) → failures_told (f x).1 ≡ 0 → NoneCounted (map f xs) → NoneCounted (map f (xs ++ x ∷ []))
 none-push f [] x fresh none = All-cons (λ (d : ℕ × DiskSeen). Uncounted d.1) (f x) [] fresh none
 none-push f (y ∷ ys) x fresh none =
     All-cons (λ (d : ℕ × DiskSeen). Uncounted d.1) (f y) (map f (ys ++ x ∷ [])) (All-head (λ (d : ℕ × DiskSeen). Uncounted d.1) (f y) (map f ys) none)
     (none-push f ys x fresh (All-tail (λ (d : ℕ × DiskSeen). Uncounted d.1) (f y) (map f ys) none))
 
-pub none-pushed : {X : Type 0} (f : X → ℕ × DiskSeen) (xs ys : List X) (x : X) → ys ≡ xs ++ x ∷ [] → (f x).1.faults ≡ 0 → NoneCounted (map f xs) → NoneCounted (map f ys)
+pub none-pushed : {X : Type 0} (f : X → ℕ × DiskSeen) (xs ys : List X) (x : X) → ys ≡ xs ++ x ∷ [] → failures_told (f x).1 ≡ 0 → NoneCounted (map f xs) → NoneCounted (map f ys)
 none-pushed f xs ys x is fresh none = subst (λ (zs : List _). NoneCounted (map f zs)) (sym is) (none-push f xs x fresh none)
 
 -- disks as they are handed back

@@ -4,7 +4,7 @@ use Rattle.std.specs.Prelude.{IsSomeAnd, MatchOption, MatchBool, All, zip, slice
 use Rattle.std.specs.List.{Contains}
 use Rattle.std.specs.Map.{lookup}
 use Rattle.block_device.specs.Counts.{HasRisen}
-use Rattle.block_device.specs.DiskSeen.{DiskSeen}
+use Rattle.block_device.specs.DiskSeen.{DiskSeen, failures_told}
 use Rattle.block_device.specs.OpenSeen.{OpenFaultSeen}
 use Rattle.block_device.specs.RackSeen.{IsAttached, spec_number}
 use Rattle.block_device.specs.declared.rack.Spec.{Spec}
@@ -119,10 +119,10 @@ pub record AreUntouched (plan : PlanSeen) (holds : Spec → Option (List (List �
   pub each : AreAsGiven holds (attached_specs plan) disks
   pub last : IsSwapAsGiven (amounts_of plan.setup).slots swap
 
--- Each of these disks has counted no fault.
+-- None of these disks tells a failure: each whose count is exact has counted none.
 pub record AreUncounted (disks : List DiskSeen) (swap : Option DiskSeen) : Type 0 where
-  pub each : All (λ (d : DiskSeen). d.faults ≡ 0) disks
-  pub last : IfSome swap (λ d. d.faults ≡ 0)
+  pub each : All (λ (d : DiskSeen). failures_told d ≡ 0) disks
+  pub last : IfSome swap (λ d. failures_told d ≡ 0)
 
 -- What a disk has in a block, where it tells.
 abbrev pub block_told : Option (List (List ℕ)) → ℕ → Option (List ℕ)

@@ -1,6 +1,6 @@
 -- What is said unless a device failed. Inside: no clause of `run` cites this.
 use Rattle.std.specs.Prelude.{ℕ, ◌≡◌, All, List, map, Result, Ok, Err}
-use Rattle.block_device.specs.DiskSeen.{DiskSeen}
+use Rattle.block_device.specs.DiskSeen.{DiskSeen, failures_told}
 use Rattle.volume_files.specs.declared.showing.ShowStop.{ShowStop}
 use Rattle.volume_files.specs.declared.showing.ShowStop.TheVariants as show
 use Rattle.volume_files.specs.declared.stops.OpenStop.{OpenStop}
@@ -20,10 +20,10 @@ UnlessCut (Err show.Memory) P = P
 UnlessCut (Err show.Sink) P = Unit {0}
 UnlessCut (Err (show.Fault f)) P = Unit {0}
 
--- How many faults each disk counted.
+-- How many failures each disk tells.
 abbrev pub counts_of : List (ℕ × DiskSeen) → List ℕ
-counts_of disks = map (λ (d : ℕ × DiskSeen). d.1.faults) disks
+counts_of disks = map (λ (d : ℕ × DiskSeen). failures_told d.1) disks
 
--- No disk counted one.
+-- No disk tells one.
 abbrev pub NoneCounted : List (ℕ × DiskSeen) → Type 0
-NoneCounted disks = All (λ (d : ℕ × DiskSeen). d.1.faults ≡ 0) disks
+NoneCounted disks = All (λ (d : ℕ × DiskSeen). failures_told d.1 ≡ 0) disks

@@ -1,5 +1,5 @@
 //! The disks are attached, and their tables read.
-ghost use Rattle.std.specs.Prelude.{◌≡◌, ◌≤◌, ◌<◌, ◌+◌, [], map, option_map, length, None, IsTrue, IfOk, IfErr, IfSome, OnErr, vec_capacity};
+ghost use Rattle.std.specs.Prelude.{◌≡◌, ◌≤◌, ◌<◌, ◌+◌, [], map, option_map, length, None, IfOk, IfErr, IfSome, OnErr, vec_capacity};
 ghost use Rattle.vm_report.specs.vm_script.Rules.{amounts_of, broken_rule};
 ghost use Rattle.volume_files.specs.Attached.{AreAttached, HasRooms, StopsEarly, attached_seen, bare_disks};
 ghost use Rattle.volume_files.specs.Handed.{AreUncounted, IsSwapAsGiven, IsSwapFor, handed_count, swap_count};
@@ -143,12 +143,12 @@ fn attach_within<R: Rack>(
     ensures later { (R.seen rack.old).faults ≤ (R.seen rack.new).faults }
     // Unless the rack or a disk failed, none counted a fault.
     ensures steady { IfOk result (λ _. (R.seen rack.new).faults ≡ (R.seen rack.old).faults) }
-    ensures uncounted { IsTrue R.D.exact → IfOk result (λ a.
+    ensures uncounted { IfOk result (λ a.
         AreUncounted (bare_disks (attached_seen R.D.seen a).disks)
         (attached_seen R.D.seen a).swap) }
     ensures lacks { IfErr result (λ s. s.why ≡ OpenStop.Memory
         → (R.seen rack.new).faults ≡ (R.seen rack.old).faults) }
-    ensures lacked { IsTrue R.D.exact → IfErr result (λ s. s.why ≡ OpenStop.Memory
+    ensures lacked { IfErr result (λ s. s.why ≡ OpenStop.Memory
         → AreUncounted (map R.D.seen s.disks.items) (option_map R.D.seen s.swap)) }
 {
     let mut attached = rooms;
@@ -192,12 +192,12 @@ pub fn attach<R: Rack>(
     ensures later { (R.seen rack.old).faults ≤ (R.seen rack.new).faults }
     // Unless the rack or a disk failed, none counted a fault.
     ensures steady { IfOk result (λ _. (R.seen rack.new).faults ≡ (R.seen rack.old).faults) }
-    ensures uncounted { IsTrue R.D.exact → IfOk result (λ a.
+    ensures uncounted { IfOk result (λ a.
         AreUncounted (bare_disks (attached_seen R.D.seen a).disks)
         (attached_seen R.D.seen a).swap) }
     ensures lacks { IfErr result (λ s. s.why ≡ OpenStop.Memory
         → (R.seen rack.new).faults ≡ (R.seen rack.old).faults) }
-    ensures lacked { IsTrue R.D.exact → IfErr result (λ s. s.why ≡ OpenStop.Memory
+    ensures lacked { IfErr result (λ s. s.why ≡ OpenStop.Memory
         → AreUncounted (map R.D.seen s.disks.items) (option_map R.D.seen s.swap)) }
 {
     match take_rooms(alloc) {

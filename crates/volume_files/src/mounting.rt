@@ -1,5 +1,6 @@
 //! Disks are attached one after another, and the table of each is read.
-ghost use Rattle.std.specs.Prelude.{◌≡◌, ◌≢◌, ◌<◌, ◌≤◌, ◌+◌, [], length, map, None, Ok, if◌then◌else◌, IsTrue, IfOk, IfErr, OnOk, vec_len, vec_capacity};
+ghost use Rattle.std.specs.Prelude.{◌≡◌, ◌≢◌, ◌<◌, ◌≤◌, ◌+◌, [], length, map, None, Ok, if◌then◌else◌, IfOk, IfErr, OnOk, vec_len, vec_capacity};
+ghost use Rattle.block_device.specs.DiskSeen.{failures_told};
 ghost use Rattle.block_device.specs.RackSeen.{KeepsOthers, spec_number};
 ghost use Rattle.volume_files.specs.Attached.{AreMounted, numbered_seen};
 ghost use Rattle.volume_files.specs.Mounting.{Holds, HoldSame, SaysTableRead, BadTableCause, UnreadCause, MountsOne, MountsNumber, HaltsNumber, HaltsSpec, Halts};
@@ -73,8 +74,8 @@ fn read_table<D: Disk>(alloc: Global, disk: &mut Unopened<D>) -> Result<Table, O
     ensures reads { OnlyReads (D.seen disk.old.disk) (D.seen disk.new.disk) }
     ensures ok { IfOk result (SaysTableRead (D.seen disk.new.disk)) }
     ensures err { IfErr result (UnreadCause (disk.old.number, D.seen disk.new.disk)) }
-    ensures exact { IsTrue D.exact → UnlessFailed result
-        ((D.seen disk.new.disk).faults ≡ (D.seen disk.old.disk).faults) }
+    ensures failures { UnlessFailed result
+        (failures_told (D.seen disk.new.disk) ≡ failures_told (D.seen disk.old.disk)) }
 {
     let number = disk.number();
     let blocks = disk.blocks();
@@ -116,7 +117,7 @@ fn mount<R: Rack>(
     // Unless the rack or a disk failed, none counted a fault.
     ensures steady { UnlessFailed result
         ((R.seen rack.new).faults ≡ (R.seen rack.old).faults) }
-    ensures uncounted { IsTrue R.D.exact → UnlessFailed result
+    ensures uncounted { UnlessFailed result
         (NoneCounted (map (numbered_seen R.D.seen) disks.old.items)
         → NoneCounted (map (numbered_seen R.D.seen) disks.new.items)) }
     // Each disk that the rack attached is in the list.
@@ -170,7 +171,7 @@ fn mount_numbered<R: Rack>(
     // Unless the rack or a disk failed, none counted a fault.
     ensures steady { UnlessFailed result
         ((R.seen rack.new).faults ≡ (R.seen rack.old).faults) }
-    ensures uncounted { IsTrue R.D.exact → UnlessFailed result
+    ensures uncounted { UnlessFailed result
         (NoneCounted (map (numbered_seen R.D.seen) disks.old.items)
         → NoneCounted (map (numbered_seen R.D.seen) disks.new.items)) }
     // Each disk that the rack attached is in the list.
@@ -215,7 +216,7 @@ pub fn mount_all<R: Rack>(
     // Unless the rack or a disk failed, none counted a fault.
     ensures steady { UnlessFailed result
         ((R.seen rack.new).faults ≡ (R.seen rack.old).faults) }
-    ensures uncounted { IsTrue R.D.exact → UnlessFailed result
+    ensures uncounted { UnlessFailed result
         (NoneCounted (map (numbered_seen R.D.seen) disks.new.items)) }
     ensures count { (R.seen rack.new).attached ≡ (R.seen rack.old).attached + vec_len disks.new }
     ensures few { vec_len disks.new ≤ 8 }

@@ -1,12 +1,12 @@
 //! Disks from which pages are read, before and after the processes run.
-ghost use Rattle.std.specs.Prelude.{◌≡◌, ◌<◌, length, IsTrue, IfErr, OnOk};
+ghost use Rattle.std.specs.Prelude.{◌≡◌, ◌<◌, length, IfErr, OnOk};
 
 use block_device::{Disk, DiskFault, OpenFault, Unopened, read_block};
 
 /// A disk with its number. A transfer that fails tells the disk's number and its counts of faults before and after.
 pub trait PageDisk {
-    ghost use Rattle.std.specs.Prelude.{ℕ, ◌≡◌, ◌<◌, length, Bool, IsTrue, IfErr, OnOk};
-    ghost use Rattle.block_device.specs.DiskSeen.{DiskSeen, HasBlocks, Reads};
+    ghost use Rattle.std.specs.Prelude.{ℕ, ◌≡◌, ◌<◌, length, IsTrue, IfErr, OnOk};
+    ghost use Rattle.block_device.specs.DiskSeen.{DiskSeen, HasBlocks, Reads, failures_told};
     ghost use Rattle.volume_files.specs.Written.{IsReadFault, FaultCounts};
 
     type Fault: Drop;
@@ -14,9 +14,6 @@ pub trait PageDisk {
     ghost numbered: { Self → ℕ × DiskSeen };
 
     ghost counts: { Self.Fault → FaultCounts };
-
-    /// Does its count of faults rise by transfers that fail alone?
-    ghost exact: { Bool };
 
     /// The number of the disk.
     fn number(&self) -> u32
@@ -29,8 +26,8 @@ pub trait PageDisk {
         // What is read, and what a fault counts.
         ensures reads { Reads (numbered self.old).1 (numbered self.new).1 block into.new result }
         ensures number { (numbered self.new).0 ≡ (numbered self.old).0 }
-        ensures exact { IsTrue exact
-            → OnOk result ((numbered self.new).1.faults ≡ (numbered self.old).1.faults) }
+        ensures failures { OnOk result
+            (failures_told (numbered self.new).1 ≡ failures_told (numbered self.old).1) }
         ensures fault { IfErr result (IsReadFault counts (numbered self.old) (numbered self.new)) };
 
     ghost has_blocks: { (disk : Self) → HasBlocks (numbered disk).1.content (numbered disk).1.size };
@@ -45,8 +42,6 @@ impl<D: Disk> PageDisk for Unopened<D> {
     ghost numbered = { numbered_seen D.seen };
 
     ghost counts = { open_fault_counts };
-
-    ghost exact = { D.exact };
 
     fn number(&self) -> u32 {
         Unopened::number(self)
@@ -67,8 +62,6 @@ impl<D: Disk> PageDisk for (u32, D) {
     ghost numbered = { λ d. (d.0, D.seen d.1) };
 
     ghost counts = { disk_fault_counts };
-
-    ghost exact = { D.exact };
 
     fn number(&self) -> u32 {
         self.0

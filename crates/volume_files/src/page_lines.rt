@@ -1,5 +1,6 @@
 //! The lines of a file, page by page.
-ghost use Rattle.std.specs.Prelude.{◌≡◌, ◌≤◌, ◌<◌, ◌+◌, ◌*◌, ◌^◌, length, take, IsTrue, IfOk, IfErr, OnOk};
+ghost use Rattle.std.specs.Prelude.{◌≡◌, ◌≤◌, ◌<◌, ◌+◌, ◌*◌, ◌^◌, length, take, IfOk, IfErr, OnOk};
+ghost use Rattle.block_device.specs.DiskSeen.{failures_told};
 ghost use Rattle.vm_report.specs.flat_model.Words.{pages_in};
 ghost use Rattle.volume_files.specs.Unfailed.{UnlessCut};
 ghost use Rattle.volume_files.specs.Showing.{LiesOn, LooksAt, ArePageBytes, IsPageShown, IsUnread, LinesShown, shown_info};
@@ -46,8 +47,8 @@ fn read_page<P: PageDisk>(
     ensures few { IfOk result (λ count. 4096 * page + count < 2 ^ 32) }
     // The disk was only read.
     ensures looks { LooksAt (P.numbered disk.old) (P.numbered disk.new) }
-    ensures exact { IsTrue P.exact
-        → OnOk result ((P.numbered disk.new).1.faults ≡ (P.numbered disk.old).1.faults) }
+    ensures failures { OnOk result
+        (failures_told (P.numbered disk.new).1 ≡ failures_told (P.numbered disk.old).1) }
     ensures fault { IfErr result (IsUnread P.counts (P.numbered disk.old) (P.numbered disk.new)) }
 {
     disk.read(files.block(file, page), into)?;
@@ -71,8 +72,8 @@ fn show_page<P: PageDisk, K: Sink>(
     // Counts of faults.
     ensures later { (K.seen out.old).faults ≤ (K.seen out.new).faults }
     ensures steady { UnlessCut result ((K.seen out.new).faults ≡ (K.seen out.old).faults) }
-    ensures exact { IsTrue P.exact
-        → UnlessCut result ((P.numbered disk.new).1.faults ≡ (P.numbered disk.old).1.faults) }
+    ensures failures { UnlessCut result
+        (failures_told (P.numbered disk.new).1 ≡ failures_told (P.numbered disk.old).1) }
 {
     let count = match read_page(files, file, page, disk, &mut buffer.bytes) {
         Ok(count) => count,
@@ -103,8 +104,8 @@ pub(crate) fn show_lines<P: PageDisk, K: Sink>(
     // Counts of faults.
     ensures later { (K.seen out.old).faults ≤ (K.seen out.new).faults }
     ensures steady { UnlessCut result ((K.seen out.new).faults ≡ (K.seen out.old).faults) }
-    ensures exact { IsTrue P.exact
-        → UnlessCut result ((P.numbered disk.new).1.faults ≡ (P.numbered disk.old).1.faults) }
+    ensures failures { UnlessCut result
+        (failures_told (P.numbered disk.new).1 ≡ failures_told (P.numbered disk.old).1) }
 {
     let pages = pages_in(files.info(file).length);
     for page in 0..pages {

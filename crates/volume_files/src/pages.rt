@@ -1,5 +1,6 @@
 //! The pages of the files of a script's lines are written.
-ghost use Rattle.std.specs.Prelude.{◌≡◌, ◌≤◌, ◌<◌, ◌+◌, ◌-◌, ◌^◌, length, option_map, map, IsTrue, IfErr, OnOk, slice_index_or, [], All};
+ghost use Rattle.std.specs.Prelude.{◌≡◌, ◌≤◌, ◌<◌, ◌+◌, ◌-◌, ◌^◌, length, option_map, map, IfErr, OnOk, slice_index_or, [], All};
+ghost use Rattle.block_device.specs.DiskSeen.{failures_told};
 ghost use Rattle.vm_report.specs.flat_model.Words.{pages_in};
 ghost use Rattle.volume_format.specs.vnode_files.Files.{vnode_at};
 ghost use Rattle.volume_format.specs.Table.{front_block};
@@ -35,8 +36,8 @@ fn write_pages<D: Disk>(disk: &mut Unopened<D>, start: u32, bytes: &[u8]) -> Res
         (λ number block. LiesBeside start (pages_in (length bytes.now)) block) disk.old disk.new }
     ensures stays { RemainsThere D.seen disk.old disk.new }
     ensures fault { IfErr result (IsFaultOne D.seen disk.new) }
-    ensures exact { IsTrue D.exact
-        → OnOk result ((D.seen disk.new.disk).faults ≡ (D.seen disk.old.disk).faults) }
+    ensures failures { OnOk result
+        (failures_told (D.seen disk.new.disk) ≡ failures_told (D.seen disk.old.disk)) }
 {
     for page in 0..bytes.len().div_ceil(4096) {
         disk.write(start + page as u32, &page_of(bytes, page))?;
@@ -63,8 +64,8 @@ fn write_on<D: Disk>(disk: &mut Unopened<D>, info: &FileInfo, bytes: &[u8]) -> R
     ensures keeps { KeepsThere D.seen (SparesBlock info.now bytes.now) disk.old disk.new }
     ensures stays { RemainsThere D.seen disk.old disk.new }
     ensures fault { IfErr result (IsFaultOne D.seen disk.new) }
-    ensures exact { IsTrue D.exact
-        → OnOk result ((D.seen disk.new.disk).faults ≡ (D.seen disk.old.disk).faults) }
+    ensures failures { OnOk result
+        (failures_told (D.seen disk.new.disk) ≡ failures_told (D.seen disk.old.disk)) }
 {
     if info.disk == disk.number() {
         return write_pages(disk, front_block(info), bytes);
@@ -84,8 +85,7 @@ fn write_file<D: Disk>(
     ensures keep { KeepThere D.seen (SparesBlock info.now bytes.now) disks.old disks.new }
     ensures stay { RemainThere D.seen disks.old disks.new }
     ensures fault { IfErr result (IsFaultThere D.seen disks.new) }
-    ensures exact { IsTrue D.exact
-        → OnOk result (counts_of (map (numbered_seen D.seen) disks.new)
+    ensures failures { OnOk result (counts_of (map (numbered_seen D.seen) disks.new)
         ≡ counts_of (map (numbered_seen D.seen) disks.old)) }
 {
     for i in 0..disks.len() {
@@ -126,8 +126,7 @@ pub(crate) fn write_lines<D: Disk>(
         (SpareBlock (line_files files.now first setup.now)) disks.old disks.new }
     ensures stay { RemainThere D.seen disks.old disks.new }
     ensures fault { IfErr result (IsFaultThere D.seen disks.new) }
-    ensures exact { IsTrue D.exact
-        → OnOk result (counts_of (map (numbered_seen D.seen) disks.new)
+    ensures failures { OnOk result (counts_of (map (numbered_seen D.seen) disks.new)
         ≡ counts_of (map (numbered_seen D.seen) disks.old)) }
 {
     let mut file = first;

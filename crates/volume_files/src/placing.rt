@@ -1,5 +1,5 @@
 //! The files are placed on the disks.
-ghost use Rattle.std.specs.Prelude.{ℕ, ◌≡◌, ◌≤◌, All, List, Option, IsTrue, IfOk, IfErr, None, length, map, option_map};
+ghost use Rattle.std.specs.Prelude.{ℕ, ◌≡◌, ◌≤◌, All, List, Option, IfOk, IfErr, None, length, map, option_map};
 ghost use Rattle.block_device.specs.declared.rack.Spec.{Spec};
 ghost use Rattle.vm_report.specs.vm_script.FileNames.{with_files};
 ghost use Rattle.vm_report.specs.vm_script.Rules.{broken_rule};
@@ -79,8 +79,7 @@ fn place_files<D: Disk>(
         (length (found_files (map (numbered_seen D.seen) disks.old) tables.now))
         (placing_read D.seen disks.old tables.now setup.now) disks.old disks.new) }
     ensures remain { RemainThere D.seen disks.old disks.new }
-    ensures exact { IsTrue D.exact
-        → IfOk result (λ _. counts_of (map (numbered_seen D.seen) disks.new)
+    ensures failures { IfOk result (λ _. counts_of (map (numbered_seen D.seen) disks.new)
         ≡ counts_of (map (numbered_seen D.seen) disks.old)) }
 {
     let mut files = mount(alloc, disks, tables)?;
@@ -116,8 +115,7 @@ fn number_files<D: Disk>(
         (length (found_files (map (numbered_seen D.seen) disks.old) tables.now))
         (placing_read D.seen disks.old tables.now plan.old.setup) disks.old disks.new) }
     ensures remain { RemainThere D.seen disks.old disks.new }
-    ensures exact { IsTrue D.exact
-        → IfOk result (λ _. counts_of (map (numbered_seen D.seen) disks.new)
+    ensures failures { IfOk result (λ _. counts_of (map (numbered_seen D.seen) disks.new)
         ≡ counts_of (map (numbered_seen D.seen) disks.old)) }
 {
     let (files, names) = place_files(alloc, plan.setup(), tables, disks)?;
@@ -153,8 +151,7 @@ pub fn place<D: Disk>(
     ensures rules { IfOk result (λ _. broken_rule plan.new ≡ None) }
 
     // Unless a disk failed, none counted a fault.
-    ensures uncounted { IsTrue D.exact
-        → AreUncounted (bare_disks (attached_seen D.seen attached).disks)
+    ensures uncounted { AreUncounted (bare_disks (attached_seen D.seen attached).disks)
         (attached_seen D.seen attached).swap
         → IfOk result (λ p. AreUncounted (bare_disks (attached_seen D.seen p.attached).disks)
         (attached_seen D.seen p.attached).swap) }

@@ -1,6 +1,6 @@
 //! Files are read back and shown.
-ghost use Rattle.std.specs.Prelude.{ℕ, ◌≡◌, ◌≤◌, ◌<◌, ◌++◌, List, length, map, Some, IsTrue, IfOk, OnOk, slice_get};
-ghost use Rattle.block_device.specs.DiskSeen.{DiskSeen};
+ghost use Rattle.std.specs.Prelude.{ℕ, ◌≡◌, ◌≤◌, ◌<◌, ◌++◌, List, length, map, Some, IfOk, OnOk, slice_get};
+ghost use Rattle.block_device.specs.DiskSeen.{DiskSeen, failures_told};
 ghost use Rattle.volume_files.specs.Written.{infos_made};
 ghost use Rattle.volume_files.specs.Texts.{extent_pairs, heading_text};
 ghost use Rattle.volume_files.specs.Showing.{LiesOn, LooksAt, IsHeadingShown, FileShown, FileShownAmong, shown_info};
@@ -113,8 +113,8 @@ fn show_file<P: PageDisk, K: Sink>(
     // Counts of faults.
     ensures later { (K.seen out.old).faults ≤ (K.seen out.new).faults }
     ensures steady { UnlessCut result ((K.seen out.new).faults ≡ (K.seen out.old).faults) }
-    ensures exact { IsTrue P.exact
-        → UnlessCut result ((P.numbered disk.new).1.faults ≡ (P.numbered disk.old).1.faults) }
+    ensures failures { UnlessCut result
+        (failures_told (P.numbered disk.new).1 ≡ failures_told (P.numbered disk.old).1) }
 {
     show_heading(
         alloc,
@@ -165,8 +165,7 @@ fn show_file_among<P: PageDisk, K: Sink>(
     ensures disks { AreOnlyRead (map P.numbered disks.old) (map P.numbered disks.new) }
     ensures later { (K.seen out.old).faults ≤ (K.seen out.new).faults }
     ensures steady { UnlessCut result ((K.seen out.new).faults ≡ (K.seen out.old).faults) }
-    ensures exact { IsTrue P.exact
-        → UnlessCut result (counts_of (map P.numbered disks.new)
+    ensures failures { UnlessCut result (counts_of (map P.numbered disks.new)
         ≡ counts_of (map P.numbered disks.old)) }
 {
     let place = place_of(disks, files.info(file).disk);
@@ -192,8 +191,7 @@ pub fn show_files<P: PageDisk, K: Sink>(
     ensures disks { AreOnlyRead (map P.numbered disks.old) (map P.numbered disks.new) }
     ensures later { (K.seen out.old).faults ≤ (K.seen out.new).faults }
     ensures steady { UnlessCut result ((K.seen out.new).faults ≡ (K.seen out.old).faults) }
-    ensures exact { IsTrue P.exact
-        → UnlessCut result (counts_of (map P.numbered disks.new)
+    ensures failures { UnlessCut result (counts_of (map P.numbered disks.new)
         ≡ counts_of (map P.numbered disks.old)) }
 {
     let mut buffer = PageBuffer::new(alloc);

@@ -1,5 +1,5 @@
 //! The opening part of a trace.
-ghost use Rattle.std.specs.Prelude.{ℕ, ◌≡◌, ◌≤◌, ◌++◌, ◌<◌, ◌^◌, List, map, length, IsTrue, IfOk, OnOk};
+ghost use Rattle.std.specs.Prelude.{ℕ, ◌≡◌, ◌≤◌, ◌++◌, ◌<◌, ◌^◌, List, map, length, IfOk, OnOk};
 ghost use Rattle.block_device.specs.DiskSeen.{DiskSeen};
 ghost use Rattle.volume_files.specs.Attached.{numbered_seen};
 ghost use Rattle.volume_files.specs.Written.{infos_made};
@@ -35,8 +35,7 @@ pub fn trace_opening<D: Disk, K: Sink>(
         (map (numbered_seen D.seen) disks.old) (map (numbered_seen D.seen) disks.new) }
     ensures later { (K.seen out.old).faults ≤ (K.seen out.new).faults }
     ensures steady { UnlessCut result ((K.seen out.new).faults ≡ (K.seen out.old).faults) }
-    ensures exact { IsTrue D.exact
-        → UnlessCut result (counts_of (map (numbered_seen D.seen) disks.new)
+    ensures failures { UnlessCut result (counts_of (map (numbered_seen D.seen) disks.new)
         ≡ counts_of (map (numbered_seen D.seen) disks.old)) }
 {
     show_front(alloc, plan, disks, out)?;

@@ -1,5 +1,5 @@
 use Rattle.std.proofs.Common.{rules, ◌≡◌, ◌+◌, ◌∙◌, ℕ, ap, refl, subst, sym}
-use Rattle.std.specs.Prelude.{IsTrue, length}
+use Rattle.std.specs.Prelude.{length}
 use Rattle.volume_files.specs.Attached.{numbered_seen}
 use Rattle.std.proofs.lemmas.List.{length-map}
 use Rattle.volume_files.specs.Handed.{handed_count}
@@ -12,7 +12,7 @@ use Rattle.vm_run.proofs.Unfailing.{where-ended, why-lacked}
 use Rattle.vm_run.proofs.ready.ready_plan.Goals as goal
 
 pub returns-in-Err-clause-err : goal.returns-in-Err-clause-err
-returns-in-Err-clause-err g c = λ given o is asked before after sink0 sink1 exact st ft.
+returns-in-Err-clause-err g c = λ given o is asked before after sink0 sink1 st ft.
     let old = (g.R.Rack.seen c.args.rack.now).faults in
     let new = (g.R.Rack.seen c.attach.new.rack).faults in
     let u = c.stop_unopened.ensures in
@@ -20,19 +20,19 @@ returns-in-Err-clause-err g c = λ given o is asked before after sink0 sink1 exa
     (g.K.Sink.seen c.args.out.now) sink0 sink1 g.R.D.Disk.seen
     c.in-Err.back c.stop_unopened.result (record { ending = u.ending; entries = u.entries; counts = u.counts; disks = u.disks; swap = u.swap })
     (subst (λ h. StopsEarly c.args.plan h old new g.R.D.Disk.seen c.in-Err.back) (sym is) c.in-Err.ensures.err)
-    (λ m x. c.in-Err.ensures.lacked (subst IsTrue exact x) m)
+    c.in-Err.ensures.lacked
 
 pub place-requires-clause-sound : goal.place-requires-clause-sound
 place-requires-clause-sound g c = c.setup_law.ensures.setup c.requires.read.spelled.0 c.args.plan c.requires.read.spelled.1
 
 pub returns-in-Err-place-clause-err : goal.returns-in-Err-place-clause-err
-returns-in-Err-place-clause-err g c = λ given o is asked before after sink0 sink1 exact st ft.
+returns-in-Err-place-clause-err g c = λ given o is asked before after sink0 sink1 st ft.
     let u = c.stop_unopened-in-Err-place.ensures in
     stopped-early st ft given o (record { options = c.args.options; plan = c.args.plan }) asked 0 0 never-risen (g.K.Sink.seen c.args.out.now) sink0 sink1 g.R.D.Disk.seen c.in-Err-place.back
     c.stop_unopened-in-Err-place.result (record { ending = u.ending; entries = u.entries; counts = u.counts; disks = u.disks; swap = u.swap })
     (subst (λ h. StopsEarly c.args.plan h 0 0 g.R.D.Disk.seen c.in-Err-place.back) (sym is)
     (c.in-Err-place.ensures.err (g.R.Rack.seen c.args.rack.now).holds 0 c.in-Ok.ensures.ok))
-    (λ m x. c.in-Err-place.ensures.lacked (c.in-Ok.ensures.uncounted (subst IsTrue exact x)) m)
+    (c.in-Err-place.ensures.lacked c.in-Ok.ensures.uncounted)
 
 pub traced-requires-clause-placed : goal.traced-requires-clause-placed
 traced-requires-clause-placed g c =
@@ -62,7 +62,7 @@ returns-in-Ok-traced-clause-ready g c =
     )
 
 pub returns-in-Err-traced-clause-err : goal.returns-in-Err-traced-clause-err
-returns-in-Err-traced-clause-err g c = λ given o is asked before after sink0 sink1 exact st ft.
+returns-in-Err-traced-clause-err g c = λ given o is asked before after sink0 sink1 st ft.
     let holds = (g.R.Rack.seen c.args.rack.now).holds in
     let seen = g.R.D.Disk.seen in
     let a = attached_seen seen c.in-Ok-place.placed.attached in
@@ -74,9 +74,7 @@ returns-in-Err-traced-clause-err g c = λ given o is asked before after sink0 si
     (subst (λ h. ArePlaced c.args.plan h p.0 a made) (sym is) p.1) t.1
     c.in-Err-traced.ensures.disks (search rules) (g.K.Sink.seen c.args.out.now)
     (g.K.Sink.seen c.traced.new.out) sink0 sink1 c.place.new.plan p.2 c.in-Err-traced.ending t.2
-    (λ m x.
-    let true-of = subst IsTrue exact x in
-    where-ended (Unit {0}) c.in-Err-traced.ending m (c.in-Err-traced.ensures.exact true-of) (c.in-Ok-place.ensures.uncounted true-of (c.in-Ok.ensures.uncounted true-of)))
+    (λ m. where-ended (Unit {0}) c.in-Err-traced.ending m c.in-Err-traced.ensures.failures (c.in-Ok-place.ensures.uncounted c.in-Ok.ensures.uncounted))
     seen b.disks.items b.swap refl refl
     c.stop_untraced.result c.stop_untraced.ensures.ending c.stop_untraced.ensures.entries c.stop_untraced.ensures.counts c.stop_untraced.ensures.disks c.stop_untraced.ensures.swap
 
@@ -113,7 +111,7 @@ returns-in-Err-traced-clause-back g c =
     c.in-Ok.ensures.kept ∙ ap (λ (n : ℕ). (g.R.Rack.seen c.args.rack.now).attached + n) (sym (c.stop_untraced.ensures.count ∙ same ∙ c.in-Ok-place.ensures.kept))
 
 pub returns-in-Ok-traced-clause-uncounted : goal.returns-in-Ok-traced-clause-uncounted
-returns-in-Ok-traced-clause-uncounted g c = λ is. c.in-Ok-traced.ensures.exact is (c.in-Ok-place.ensures.uncounted is (c.in-Ok.ensures.uncounted is))
+returns-in-Ok-traced-clause-uncounted g c = c.in-Ok-traced.ensures.failures (c.in-Ok-place.ensures.uncounted c.in-Ok.ensures.uncounted)
 
 pub returns-in-Err-clause-lacks : goal.returns-in-Err-clause-lacks
 returns-in-Err-clause-lacks g c = λ memory. (c.in-Err.ensures.lacks (why-lacked c.in-Err.back.why (sym c.stop_unopened.ensures.ending ∙ memory)), refl)

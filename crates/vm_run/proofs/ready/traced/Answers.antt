@@ -53,19 +53,19 @@ returns-in-Err-clause-shows g c = λ holds files p.
           (subst (λ (l : List (ℕ × DiskSeen)). TraceShows c.args.plan.now infos s.0 k0 k1 l new (Err c.in-Err.stop)) was s.2))),
     )
 
-pub returns-in-Ok-clause-exact : goal.returns-in-Ok-clause-exact
-returns-in-Ok-clause-exact g c = λ is none.
+pub returns-in-Ok-clause-failures : goal.returns-in-Ok-clause-failures
+returns-in-Ok-clause-failures g c = λ none.
     let f = numbered_seen g.D.Disk.seen in
     let old = c.args.placed.now.attached.disks.items in
     let new = c.trace_opening.new.disks in
     let swap = (attached_seen g.D.Disk.seen c.args.placed.now.attached).swap in
-    let same = c.in-Ok.ensures.exact is ∙ ap (λ (ds : List (NumberedDisk g.row.D.Denot)). counts_of (map f ds)) c.as_mut_slice-disks.ensures.value in
+    let same = c.in-Ok.ensures.failures ∙ ap (λ (ds : List (NumberedDisk g.row.D.Denot)). counts_of (map f ds)) c.as_mut_slice-disks.ensures.value in
     subst (λ (l : List (NumberedDisk g.row.D.Denot)). AreUncounted (bare_disks (map f l)) swap)
     (written-back c.args.placed.now.attached.disks.len new old (search rules) (search rules))
     (record { each = zero-still (map f old) (map f new) same none.each; last = none.last })
 
-pub returns-in-Err-clause-exact : goal.returns-in-Err-clause-exact
-returns-in-Err-clause-exact g c = λ is.
+pub returns-in-Err-clause-failures : goal.returns-in-Err-clause-failures
+returns-in-Err-clause-failures g c =
     let f = numbered_seen g.D.Disk.seen in
     let old = c.args.placed.now.attached.disks.items in
     let new = c.trace_opening.new.disks in
@@ -74,7 +74,7 @@ returns-in-Err-clause-exact g c = λ is.
     unless-opening c.in-Err.stop c.opening_stop.result c.opening_stop.ensures
     (λ same none. subst (λ (l : List (NumberedDisk g.row.D.Denot)). AreUncounted (bare_disks (map f l)) swap)
     (written-back c.args.placed.now.attached.disks.len new old (search rules) (search rules))
-    (record { each = zero-still (map f old) (map f new) (same ∙ was) none.each; last = none.last })) (c.in-Err.ensures.exact is)
+    (record { each = zero-still (map f old) (map f new) (same ∙ was) none.each; last = none.last })) c.in-Err.ensures.failures
 
 pub returns-in-Err-clause-steady : goal.returns-in-Err-clause-steady
 returns-in-Err-clause-steady g c = unless-opening c.in-Err.stop c.opening_stop.result c.opening_stop.ensures (λ same. same) c.in-Err.ensures.steady

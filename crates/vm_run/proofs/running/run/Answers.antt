@@ -14,7 +14,7 @@ returns-clause-ends g c =
     let how = c.conclude.ensures.ends in
     ends-so (given_of (map string_bytes c.args.words.now) (g.S.Source.seen c.args.script.now) (g.R.Rack.seen c.args.rack.now))
     (g.S.Source.seen c.args.script.now).faults (g.S.Source.seen c.course-stop.new.script).faults (g.R.Rack.seen c.args.rack.now).faults (g.R.Rack.seen c.course-stop.new.rack).faults
-    (g.R.Rack.seen c.args.rack.now).attached (g.R.Rack.seen c.course-stop.new.rack).attached g.R.D.Disk.exact
+    (g.R.Rack.seen c.args.rack.now).attached (g.R.Rack.seen c.course-stop.new.rack).attached
     (g.K.Sink.seen c.args.out.now) (g.K.Sink.seen c.course-stop.new.out) (g.K.Sink.seen c.conclude.new.out) c.course-stop.ensures.sink c.conclude.ensures.later stop.history out.history
     (map seen stop.disks.items) (map seen out.disks.items) (option_map seen stop.swap) (option_map seen out.swap) c.conclude.ensures.history (ap (λ d. map seen d.items) c.conclude.ensures.disks)
     (ap (option_map seen) c.conclude.ensures.swap) stop.ending how.0 out.status out.fault c.course-stop.ensures.ends c.course-stop.ensures.hides how.1 how.2 how.3

@@ -71,7 +71,7 @@ end_run-requires-clause-names g c =
 pub end_run-requires-clause-some : goal.end_run-requires-clause-some
 end_run-requires-clause-some g c =
     let q = c.requires.ready in
-    first-left 0 None q.0 (record { source_old = 0; source_new = 0; rack_old = 0; rack_new = 0; attached_old = 0; attached_new = 0; sink_old = q.1; sink_new = q.1; exact = false }) q.2 q.3 q.4
+    first-left 0 None q.0 (record { source_old = 0; source_new = 0; rack_old = 0; rack_new = 0; attached_old = 0; attached_new = 0; sink_old = q.1; sink_new = q.1 }) q.2 q.3 q.4
     (attached_seen g.D.Disk.seen c.args.ready.placed.attached) c.args.ready.placed.files c.args.ready.plan (g.K.Sink.seen c.args.out.now) q.5 c.in-Ok.field-0.state
     (left_seen g.D.Disk.seen c.play-played.result.finished) (started g c) (left g c)
 

@@ -9,7 +9,7 @@ use Rattle.volume_files.specs.Attached.{numbered_seen}
 use Rattle.volume_files.specs.Handed.{IsSwapAsGiven, IsSwapFor}
 use Rattle.volume_files.specs.Mounting.{Halts}
 use Rattle.volume_files.proofs.MountEnds.{stopped_later, early}
-use Rattle.volume_files.proofs.Unfailing.{bare-none, handed-none, where-lacked}
+use Rattle.volume_files.proofs.Unfailing.{bare-none, handed-none, swap-told, where-lacked}
 use Rattle.volume_files.proofs.attaching.attach_within.Goals as goal
 
 pub returns-in-Err-mount_all-clause-err : goal.returns-in-Err-mount_all-clause-err
@@ -41,14 +41,14 @@ returns-in-Err-mount_all-clause-err g c =
     (stopped_later plan first.holds first.faults mid.faults new.faults swap disks how c.attach_swap.ensures.later swaps blank halts)
 
 pub returns-in-Ok-mount_all-clause-uncounted : goal.returns-in-Ok-mount_all-clause-uncounted
-returns-in-Ok-mount_all-clause-uncounted g c = λ is.
-    record { each = bare-none (map (numbered_seen g.R.D.Disk.seen) c.mount_all.new.disks.items) (c.in-Ok-mount_all.ensures.uncounted is); last = c.in-Ok.ensures.unfailed }
+returns-in-Ok-mount_all-clause-uncounted g c =
+    record { each = bare-none (map (numbered_seen g.R.D.Disk.seen) c.mount_all.new.disks.items) c.in-Ok-mount_all.ensures.uncounted; last = swap-told _ c.in-Ok.ensures.unfailed }
 
 pub returns-in-Err-mount_all-clause-lacked : goal.returns-in-Err-mount_all-clause-lacked
-returns-in-Err-mount_all-clause-lacked g c = λ is memory.
+returns-in-Err-mount_all-clause-lacked g c = λ memory.
     let seen = g.R.D.Disk.seen in
     let e = c.hand_back-in-Err-mount_all.ensures in
     let disks = c.mount_all.new.disks.items in
-    let none = where-lacked {T = Unit {0}} (Err c.in-Err-mount_all.how) c.in-Err-mount_all.how refl (sym e.why ∙ memory) (c.in-Err-mount_all.ensures.uncounted is) in
+    let none = where-lacked {T = Unit {0}} (Err c.in-Err-mount_all.how) c.in-Err-mount_all.how refl (sym e.why ∙ memory) c.in-Err-mount_all.ensures.uncounted in
     handed-none seen disks c.in-Ok.swap c.hand_back-in-Err-mount_all.result.disks.items c.hand_back-in-Err-mount_all.result.swap e.disks e.swap
-    (record { each = bare-none (map (numbered_seen seen) disks) none; last = c.in-Ok.ensures.unfailed })
+    (record { each = bare-none (map (numbered_seen seen) disks) none; last = swap-told _ c.in-Ok.ensures.unfailed })

@@ -36,7 +36,7 @@ loop-number-preserved g c =
       others = λ s le. m.others s (λ e. absurd (omega (arith, le, e))) ∙ inv.others s (omega (arith, le));
       later = omega (arith, inv.later, m.later);
       steady = c.in_ok-mount_numbered.ensures.steady ∙ inv.steady;
-      uncounted = λ is. c.in_ok-mount_numbered.ensures.uncounted is (inv.uncounted is);
+      uncounted = c.in_ok-mount_numbered.ensures.uncounted inv.uncounted;
       count = omega (arith, inv.count, m.count);
       few_disks = omega (arith, inv.few_disks, m.disks);
       few_tables = omega (arith, inv.few_tables, m.tables);
@@ -50,6 +50,6 @@ returns-in_err-mount_numbered-clause-steady g c =
     rw (p.1, p.2) (unless-failed {T = Unit {0}} (Err c.in_err-mount_numbered.field-0.0) (λ same. same ∙ c.loop-number.invariant.steady) c.in_err-mount_numbered.ensures.steady)
 
 pub returns-in_err-mount_numbered-clause-uncounted : goal.returns-in_err-mount_numbered-clause-uncounted
-returns-in_err-mount_numbered-clause-uncounted g c = λ is.
+returns-in_err-mount_numbered-clause-uncounted g c =
     let p = err_from_is_err_and c.from_residual.result c.from_residual.ensures.1 in
-    rw (p.1, p.2) (unless-failed {T = Unit {0}} (Err c.in_err-mount_numbered.field-0.0) (λ more. more (c.loop-number.invariant.uncounted is)) (c.in_err-mount_numbered.ensures.uncounted is))
+    rw (p.1, p.2) (unless-failed {T = Unit {0}} (Err c.in_err-mount_numbered.field-0.0) (λ more. more c.loop-number.invariant.uncounted) c.in_err-mount_numbered.ensures.uncounted)

@@ -1,5 +1,5 @@
 use Rattle.std.proofs.Common.{◌≡◌, ◌≤◌, ◌+◌, map}
-use Rattle.std.specs.Prelude.{IsTrue, vec_len, vec_capacity}
+use Rattle.std.specs.Prelude.{vec_len, vec_capacity}
 use Rattle.block_device.specs.RackSeen.{spec_number}
 use Rattle.block_device.specs.declared.rack.Spec.{Spec}
 use Rattle.volume_files.specs.Attached.{AreMounted, numbered_seen}
@@ -14,7 +14,7 @@ invariant-loop-number g l = record {
   others : (s : Spec) → l.number ≤ spec_number s → (g.R.Rack.seen l.rack).holds s ≡ (g.R.Rack.seen l.fn.rack).holds s;
   later : (g.R.Rack.seen l.fn.rack).faults ≤ (g.R.Rack.seen l.rack).faults;
   steady : (g.R.Rack.seen l.rack).faults ≡ (g.R.Rack.seen l.fn.rack).faults;
-  uncounted : IsTrue g.R.D.Disk.exact → NoneCounted (map (numbered_seen g.R.D.Disk.seen) l.disks.items);
+  uncounted : NoneCounted (map (numbered_seen g.R.D.Disk.seen) l.disks.items);
   count : (g.R.Rack.seen l.rack).attached ≡ (g.R.Rack.seen l.fn.rack).attached + vec_len l.disks;
   few_disks : vec_len l.disks ≤ l.number;
   few_tables : vec_len l.tables ≤ l.number;

@@ -15,7 +15,7 @@ loop-page-init g c =
     record {
       so_far = lines_begin c.args.files.now c.args.file d0 (g.K.Sink.seen c.args.out.now) c.requires (g.met.P.PageDisk.has_blocks c.args.disk.now);
       steady = refl;
-      exact = λ is. refl;
+      failures = refl;
     }
 
 pub show_page-requires-clause-lies : goal.show_page-requires-clause-lies
@@ -38,7 +38,7 @@ loop-page-preserved g c =
           (g.P.PageDisk.numbered c.args.disk.now) (g.P.PageDisk.numbered c.loop-page.disk) (g.P.PageDisk.numbered c.show_page.new.disk)
           low c.loop-page.invariant.so_far shown.0 shown.1 shown.2 c.in_ok-show_page.ensures.looks c.in_ok-show_page.ensures.later;
       steady = c.in_ok-show_page.ensures.steady ∙ c.loop-page.invariant.steady;
-      exact = λ is. c.in_ok-show_page.ensures.exact is ∙ c.loop-page.invariant.exact is;
+      failures = c.in_ok-show_page.ensures.failures ∙ c.loop-page.invariant.failures;
     }
 
 pub returns-in_err-show_page-clause-shown : goal.returns-in_err-show_page-clause-shown
@@ -69,7 +69,7 @@ returns-in_err-show_page-clause-steady g c =
     let p = err_from_is_err_and c.from_residual.result c.from_residual.ensures.1 in
     rw (p.1, p.2) (unless-cut {T = Unit {0}} (Err c.in_err-show_page.field-0.0) (λ same. same ∙ c.loop-page.invariant.steady) c.in_err-show_page.ensures.steady)
 
-pub returns-in_err-show_page-clause-exact : goal.returns-in_err-show_page-clause-exact
-returns-in_err-show_page-clause-exact g c = λ is.
+pub returns-in_err-show_page-clause-failures : goal.returns-in_err-show_page-clause-failures
+returns-in_err-show_page-clause-failures g c =
     let p = err_from_is_err_and c.from_residual.result c.from_residual.ensures.1 in
-    rw (p.1, p.2) (unless-cut {T = Unit {0}} (Err c.in_err-show_page.field-0.0) (λ same. same ∙ c.loop-page.invariant.exact is) (c.in_err-show_page.ensures.exact is))
+    rw (p.1, p.2) (unless-cut {T = Unit {0}} (Err c.in_err-show_page.field-0.0) (λ same. same ∙ c.loop-page.invariant.failures) c.in_err-show_page.ensures.failures)

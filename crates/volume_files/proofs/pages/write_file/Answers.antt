@@ -35,7 +35,7 @@ loop-i-preserved g c =
       stay = next.stay;
       done = next.done;
       rest = next.rest;
-      exact = λ is. counts-set (numbered_seen g.D.Disk.seen) c.loop-i.disks c.loop-i.i c.index-disks-i.result c.write_on.new.disk (c.in_ok-write_on.ensures.exact is) ∙ c.loop-i.invariant.exact is;
+      failures = counts-set (numbered_seen g.D.Disk.seen) c.loop-i.disks c.loop-i.i c.index-disks-i.result c.write_on.new.disk (c.in_ok-write_on.ensures.failures) ∙ c.loop-i.invariant.failures;
     }
 
 pub returns-in_err-write_on-clause-keep : goal.returns-in_err-write_on-clause-keep

@@ -1,4 +1,4 @@
-use Rattle.std.specs.Prelude.{◌≡◌, ◌<◌, ◌≤◌, ℕ, IsTrue, length, map, slice_index_or}
+use Rattle.std.specs.Prelude.{◌≡◌, ◌<◌, ◌≤◌, ℕ, length, map, slice_index_or}
 use Rattle.block_device.specs.declared.numbered.NumberedDisk.{NumberedDisk}
 use Rattle.volume_files.specs.Attached.{numbered_seen}
 use Rattle.volume_files.specs.Unfailed.{counts_of}
@@ -13,5 +13,5 @@ invariant-loop-i g l = record {
       → (g.D.Disk.seen (slice_index_or l.disks j d).disk).content
       ≡ with_file (slice_index_or l.fn.disks j d).number (g.D.Disk.seen (slice_index_or l.fn.disks j d).disk).content l.info l.bytes;
   rest : (j : ℕ) (d : NumberedDisk _) → l.i ≤ j → slice_index_or l.disks j d ≡ slice_index_or l.fn.disks j d;
-  exact : IsTrue g.D.Disk.exact → counts_of (map (numbered_seen g.D.Disk.seen) l.disks) ≡ counts_of (map (numbered_seen g.D.Disk.seen) l.fn.disks);
+  failures : counts_of (map (numbered_seen g.D.Disk.seen) l.disks) ≡ counts_of (map (numbered_seen g.D.Disk.seen) l.fn.disks);
 }

@@ -1,4 +1,4 @@
-use Rattle.std.specs.Prelude.{ℕ, ◌≡◌, ◌+◌, IsTrue, List, drop, map, Some, None}
+use Rattle.std.specs.Prelude.{ℕ, ◌≡◌, ◌+◌, List, drop, map, Some, None}
 use Rattle.std.proofs.Common.{◌∙◌, ap, arith, sym, subst}
 use Rattle.block_device.specs.declared.numbered.NumberedDisk.{NumberedDisk}
 use Rattle.std.proofs.lemmas.List.Elements.{All-head}
@@ -53,8 +53,8 @@ loop-line-preserved g c =
           (lines_on-other seen made c.args.first c.args.setup.now c.args.disks.now c.loop-line.disks k i c.line-item.result on c.loop-line-test.true c.line-item.is gives))
     ] in
     let seen-of = numbered_seen seen in
-    let same : IsTrue g.D.Disk.exact → counts_of (map seen-of c.match-file_bytes.disks) ≡ counts_of (map seen-of c.loop-line.disks) = λ is. elim c.match-file_bytes.branch [
-      | in-Some+in_ok-write_file w ↦ ap (λ (ds : List (NumberedDisk _)). counts_of (map seen-of ds)) w.disks-is ∙ w.in_ok-write_file.ensures.exact is
+    let same : counts_of (map seen-of c.match-file_bytes.disks) ≡ counts_of (map seen-of c.loop-line.disks) = elim c.match-file_bytes.branch [
+      | in-Some+in_ok-write_file w ↦ ap (λ (ds : List (NumberedDisk _)). counts_of (map seen-of ds)) w.disks-is ∙ w.in_ok-write_file.ensures.failures
       | in_default w ↦ ap (λ (ds : List (NumberedDisk _)). counts_of (map seen-of ds)) w.disks-is
     ] in
     record {
@@ -63,7 +63,7 @@ loop-line-preserved g c =
       places = next.places;
       rest = next.rest;
       spare = next.spare;
-      exact = λ is. same is ∙ c.loop-line.invariant.exact is;
+      failures = same ∙ c.loop-line.invariant.failures;
     }
 
 pub returns-in_err-write_file-clause-keep : goal.returns-in_err-write_file-clause-keep

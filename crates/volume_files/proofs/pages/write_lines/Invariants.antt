@@ -1,4 +1,4 @@
-use Rattle.std.specs.Prelude.{◌≡◌, ◌<◌, ◌≤◌, ◌+◌, ℕ, IsTrue, length, map, slice_index_or, drop}
+use Rattle.std.specs.Prelude.{◌≡◌, ◌<◌, ◌≤◌, ◌+◌, ℕ, length, map, slice_index_or, drop}
 use Rattle.block_device.specs.declared.numbered.NumberedDisk.{NumberedDisk}
 use Rattle.volume_files.specs.Attached.{numbered_seen}
 use Rattle.volume_files.specs.Unfailed.{counts_of}
@@ -16,5 +16,5 @@ invariant-loop-line g l = record {
       → with_file_pages (slice_index_or l.disks j d).number (g.D.Disk.seen (slice_index_or l.disks j d).disk).content (line_files l.files l.file (drop l.line-index l.setup))
       ≡ with_file_pages (slice_index_or l.fn.disks j d).number (g.D.Disk.seen (slice_index_or l.fn.disks j d).disk).content (line_files l.files l.first l.setup);
   spare : (number block : ℕ) → SpareBlock (line_files l.files l.first l.setup) number block → SpareBlock (line_files l.files l.file (drop l.line-index l.setup)) number block;
-  exact : IsTrue g.D.Disk.exact → counts_of (map (numbered_seen g.D.Disk.seen) l.disks) ≡ counts_of (map (numbered_seen g.D.Disk.seen) l.fn.disks);
+  failures : counts_of (map (numbered_seen g.D.Disk.seen) l.disks) ≡ counts_of (map (numbered_seen g.D.Disk.seen) l.fn.disks);
 }

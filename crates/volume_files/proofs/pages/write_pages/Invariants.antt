@@ -1,4 +1,4 @@
-use Rattle.std.specs.Prelude.{◌≡◌, ◌+◌, IsTrue, drop}
+use Rattle.std.specs.Prelude.{◌≡◌, ◌+◌, drop}
 use Rattle.volume_files.specs.Placing.{RemainsThere, with_block_pages, filled_pages}
 use Rattle.volume_files.proofs.pages.write_pages.Given as goal
 
@@ -8,5 +8,5 @@ invariant-loop-page g l = record {
   stays : RemainsThere g.D.Disk.seen l.fn.disk l.disk;
   rest : with_block_pages (g.D.Disk.seen l.disk.disk).content (l.start + l.page) (drop l.page (filled_pages l.bytes)) ≡ with_block_pages
       (g.D.Disk.seen l.fn.disk.disk).content l.start (filled_pages l.bytes);
-  exact : IsTrue g.D.Disk.exact → (g.D.Disk.seen l.disk.disk).faults ≡ (g.D.Disk.seen l.fn.disk.disk).faults;
+  failures : (g.D.Disk.seen l.disk.disk).faults ≡ (g.D.Disk.seen l.fn.disk.disk).faults;
 }

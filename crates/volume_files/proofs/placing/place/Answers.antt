@@ -122,13 +122,13 @@ returns-in-Err-clause-back g c =
     ∙ count-as (with_items c.args.attached.disks c.number_files.new.disks).items c.args.attached.disks.items c.args.attached.swap c.args.attached.swap (same ∙ count) refl
 
 pub returns-in-Ok-clause-uncounted : goal.returns-in-Ok-clause-uncounted
-returns-in-Ok-clause-uncounted g c = λ is none.
+returns-in-Ok-clause-uncounted g c = λ none.
     let f = numbered_seen g.D.Disk.seen in
     let new = c.number_files.new.disks in
     let was = c.deref_mut.ensures.value in
     let written : (with_items c.args.attached.disks new).items ≡ new =
     items-written c.args.attached.disks new (c.number_files.ensures.remain.count ∙ ap (λ (ds : List (NumberedDisk _)). length ds) was) in
-    let same = c.in-Ok.ensures.exact is ∙ ap (λ (ds : List (NumberedDisk _)). counts_of (map f ds)) was in
+    let same = c.in-Ok.ensures.failures ∙ ap (λ (ds : List (NumberedDisk _)). counts_of (map f ds)) was in
     subst (λ (ds : List (NumberedDisk _)). AreUncounted (bare_disks (map f ds)) (option_map (λ (d : NumberedDisk _). g.D.Disk.seen d.disk) c.args.attached.swap)) (sym written)
     (record { each = zero-still (map f c.args.attached.disks.items) (map f new) same none.each; last = none.last })
 

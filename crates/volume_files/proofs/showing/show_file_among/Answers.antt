@@ -30,6 +30,6 @@ returns-clause-disks g c =
     let at = c.place_of-place.ensures.there in
     reads_at g.P.PageDisk.numbered c.args.disks.now c.place_of-place.result c.index-disks-place.result c.show_file.new.disk c.info.result.now.disk at.0 at.1 c.show_file.ensures.looks
 
-pub returns-clause-exact : goal.returns-clause-exact
-returns-clause-exact g c = λ is.
-    unless-cut c.show_file.result (counts-set g.P.PageDisk.numbered c.args.disks.now c.place_of-place.result c.index-disks-place.result c.show_file.new.disk) (c.show_file.ensures.exact is)
+pub returns-clause-failures : goal.returns-clause-failures
+returns-clause-failures g c =
+    unless-cut c.show_file.result (counts-set g.P.PageDisk.numbered c.args.disks.now c.place_of-place.result c.index-disks-place.result c.show_file.new.disk) c.show_file.ensures.failures

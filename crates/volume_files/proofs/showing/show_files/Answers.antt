@@ -16,7 +16,7 @@ loop-file-init g c =
     record {
       so_far = files_begin c.args.heading c.args.files.now (map f c.args.disks.now) (g.K.Sink.seen c.args.out.now) c.requires.lie c.requires.disks (all_have_blocks f g.met.P.PageDisk.has_blocks c.args.disks.now);
       steady = refl;
-      exact = λ is. refl;
+      failures = refl;
     }
 
 pub show_file_among-requires-clause-disks : goal.show_file_among-requires-clause-disks
@@ -35,7 +35,7 @@ loop-file-preserved g c =
           (map f c.args.disks.now) (map f c.loop-file.disks) (map f c.show_file_among.new.disks) (info_there c.args.files.now file low) c.loop-file.invariant.so_far
           g.P.PageDisk.counts c.in_ok-show_file_among.ensures.shown c.in_ok-show_file_among.ensures.disks c.in_ok-show_file_among.ensures.later;
       steady = c.in_ok-show_file_among.ensures.steady ∙ c.loop-file.invariant.steady;
-      exact = λ is. c.in_ok-show_file_among.ensures.exact is ∙ c.loop-file.invariant.exact is;
+      failures = c.in_ok-show_file_among.ensures.failures ∙ c.loop-file.invariant.failures;
     }
 
 pub returns-in_err-show_file_among-clause-shows : goal.returns-in_err-show_file_among-clause-shows
@@ -71,7 +71,7 @@ returns-in_err-show_file_among-clause-steady g c =
     let p = err_from_is_err_and c.from_residual.result c.from_residual.ensures.1 in
     rw (p.1, p.2) (unless-cut {T = Unit {0}} (Err c.in_err-show_file_among.field-0.0) (λ same. same ∙ c.loop-file.invariant.steady) c.in_err-show_file_among.ensures.steady)
 
-pub returns-in_err-show_file_among-clause-exact : goal.returns-in_err-show_file_among-clause-exact
-returns-in_err-show_file_among-clause-exact g c = λ is.
+pub returns-in_err-show_file_among-clause-failures : goal.returns-in_err-show_file_among-clause-failures
+returns-in_err-show_file_among-clause-failures g c =
     let p = err_from_is_err_and c.from_residual.result c.from_residual.ensures.1 in
-    rw (p.1, p.2) (unless-cut {T = Unit {0}} (Err c.in_err-show_file_among.field-0.0) (λ same. same ∙ c.loop-file.invariant.exact is) (c.in_err-show_file_among.ensures.exact is))
+    rw (p.1, p.2) (unless-cut {T = Unit {0}} (Err c.in_err-show_file_among.field-0.0) (λ same. same ∙ c.loop-file.invariant.failures) c.in_err-show_file_among.ensures.failures)

@@ -1,4 +1,4 @@
-use Rattle.std.specs.Prelude.{◌≡◌, IsTrue}
+use Rattle.std.specs.Prelude.{◌≡◌}
 use Rattle.std.proofs.Common.{map}
 use Rattle.volume_files.specs.Written.{infos_made}
 use Rattle.volume_files.specs.Showing.{FilesSoFar}
@@ -9,5 +9,5 @@ abbrev pub invariant-loop-file : goal.invariant-loop-file
 invariant-loop-file g l = record {
   so_far : FilesSoFar l.heading (infos_made l.files) l.file (g.K.Sink.seen l.fn.out) (g.K.Sink.seen l.out) (map g.P.PageDisk.numbered l.fn.disks) (map g.P.PageDisk.numbered l.disks);
   steady : (g.K.Sink.seen l.out).faults ≡ (g.K.Sink.seen l.fn.out).faults;
-  exact : IsTrue g.P.PageDisk.exact → counts_of (map g.P.PageDisk.numbered l.disks) ≡ counts_of (map g.P.PageDisk.numbered l.fn.disks);
+  failures : counts_of (map g.P.PageDisk.numbered l.disks) ≡ counts_of (map g.P.PageDisk.numbered l.fn.disks);
 }

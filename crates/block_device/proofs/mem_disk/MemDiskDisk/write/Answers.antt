@@ -10,6 +10,8 @@ returns-then-fails-clause-writes c = record {
   written = tt;
   spoiled = spoils c.args.self.now.blocks.items c.args.block c.write_half.new.self;
   size = size_kept c.args.self.now.blocks.items c.args.block c.write_half.new.self;
+  kind = refl;
+  steady = tt;
   calls = calls_risen c.args.self.now.calls c.count.new.self c.is_next_listed-fails.result c.count.ensures;
   cause = record {
     later = faults_later c.args.self.now.calls c.count.new.self c.is_next_listed-fails.result c.count.ensures c.if-fails.true;
@@ -30,6 +32,8 @@ returns-clause-writes c = record {
   written = ap (λ all. Some all) (blocks_seen-set c.args.self.now.blocks.items c.args.block c.write.new.self c.args.from.now c.write.ensures);
   spoiled = tt;
   size = size_kept c.args.self.now.blocks.items c.args.block c.write.new.self;
+  kind = refl;
+  steady = faults_same c.args.self.now.calls c.count.new.self c.is_next_listed-fails.result c.count.ensures c.if-fails.false;
   calls = calls_risen c.args.self.now.calls c.count.new.self c.is_next_listed-fails.result c.count.ensures;
   cause = record { later = omega (arith, faults_same c.args.self.now.calls c.count.new.self c.is_next_listed-fails.result c.count.ensures c.if-fails.false); failed = tt };
 }

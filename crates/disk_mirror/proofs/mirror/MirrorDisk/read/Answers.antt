@@ -20,4 +20,4 @@ returns-clause-reads g c =
     let m = c.args.self.now in
     let also : is_fresh m.fresh_b c.args.block ≡ true = sym (c.if-not-get.ensures ∙ ap (λ marks. is_fresh marks c.args.block) c.if-read_first.ensures.marks_b) in
     then_reads g.D.Disk.seen (mirror_look m) (mirror_look c.read_first.new.self) c.args.block c.read_first.new.into m.marks_a c.requires.block
-    c.read.new.self c.read.new.into c.read.result also m.same c.if-read_first.ensures c.read.ensures.reads
+    c.read.new.self c.read.new.into c.read.result also m.same c.if-read_first.ensures c.read.ensures

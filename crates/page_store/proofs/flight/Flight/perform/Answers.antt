@@ -8,6 +8,7 @@ returns-clause-performed g c = record {
   origin = search rules;
   number = search rules;
   size = search rules;
+  kind = search rules;
   direction = search rules;
   name = search rules;
   block = search rules;

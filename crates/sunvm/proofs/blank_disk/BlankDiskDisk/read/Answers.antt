@@ -13,6 +13,8 @@ returns-in-None-clause-reads c =
           ∙ sym (blank-read d.places.items d.written.items d.size c.args.block c.requires.block d.few (sym (c.place_of.ensures ∙ ap (λ (l : List (Option ℕ)). slice_index_or l c.args.block None) c.deref.ensures.value) ∙ c.in-None.is));
       content = refl;
       size = refl;
+      kind = refl;
+      steady = refl;
       calls = omega (arith, c.saturating_add-self.ensures);
       cause = record { later = omega arith; failed = tt };
     }
@@ -27,6 +29,8 @@ returns-in-Some-clause-reads c =
       gives = sym own ∙ sym (written-read d.places.items d.written.items d.size c.args.block c.in-Some.place c.requires.block d.few is);
       content = refl;
       size = refl;
+      kind = refl;
+      steady = refl;
       calls = omega (arith, c.saturating_add-self.ensures);
       cause = record { later = omega arith; failed = tt };
     }

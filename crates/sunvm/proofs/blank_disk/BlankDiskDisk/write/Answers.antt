@@ -42,6 +42,8 @@ returns-in-Some-clause-writes c =
       written = ap (λ (all : List (List ℕ)). Some all) (content-again d.places.items d.written.items d.size c.args.block c.in-Some.place _ is d.placed ∙ ap (slice_set (blank_content d.places.items d.written.items d.size) c.args.block) c.copy_from_slice.ensures.after);
       spoiled = tt;
       size = refl;
+      kind = refl;
+      steady = refl;
       calls = omega (arith, c.saturating_add-self.ensures);
       cause = record { later = omega arith; failed = tt };
     }
@@ -59,6 +61,8 @@ returns-in-None-clause-writes c =
           ∙ ap (slice_set (blank_content d.places.items d.written.items d.size) c.args.block) new.written.1);
       spoiled = tt;
       size = refl;
+      kind = refl;
+      steady = refl;
       calls = omega (arith, c.saturating_add-self.ensures);
       cause = record { later = omega arith; failed = tt };
     }
