@@ -59,8 +59,8 @@ served-line (act.Write name file offset bytes) is = absurd (let z : false ≡ tr
 served-line act.Wait is = absurd (let z : false ≡ true = is in cc)
 
 formed-line : (a : PlanAct) → IsTrue (is_plain_act a) → IsSoundAct a → IsWellFormed (line_call a)
-formed-line (act.Call c) is sound = sound
-formed-line (act.Named name c) is sound = sound
+formed-line (act.Call c) is sound = sound.0
+formed-line (act.Named name c) is sound = sound.0
 formed-line (act.Write name file offset bytes) is sound = absurd (let z : false ≡ true = is in cc)
 formed-line act.Wait is sound = absurd (let z : false ≡ true = is in cc)
 

@@ -17,7 +17,7 @@ use Rattle.volume_files.specs.vm_script.Fields.{is_word}
 use Rattle.volume_files.specs.vm_script.FileNames.{place_from, call_with_file, act_with_file, line_with_file, with_files}
 use Rattle.volume_files.specs.vm_script.PlanSeen.{PlanSeen}
 use Rattle.volume_files.specs.vm_script.Rules.{is_join}
-use Rattle.volume_files.specs.vm_script.Sound.{IsSoundAct}
+use Rattle.volume_files.specs.vm_script.Sound.{IsSoundAct, IsOfNamedFile}
 use Rattle.vm_run.specs.Asked.{is_later, is_served_act, is_served_named}
 use Rattle.vm_run.specs.Played.{IsPlayable}
 
@@ -99,9 +99,25 @@ formed-named names few name (call.Truncate file len) h = (place-below 0 names na
 formed-named names few name (call.Fork child) h = h
 formed-named names few name call.Exit h = h
 
+-- a call stays one of a named file
+file-named : (names : List (List ℕ)) (name : List ℕ) (c : Call) → IsOfNamedFile c → IsOfNamedFile (call_with_file names name c)
+file-named names name (call.Load a n) h = absurd h
+file-named names name (call.Store a n v) h = absurd h
+file-named names name (call.Map at len prot kind (object.File f) offset) h = tt
+file-named names name (call.Map at len prot kind object.NewZero offset) h = absurd h
+file-named names name (call.Map at len prot kind (object.Zero z) offset) h = absurd h
+file-named names name (call.Unmap a len) h = absurd h
+file-named names name (call.Protect a len prot) h = absurd h
+file-named names name (call.Sync a len) h = absurd h
+file-named names name (call.Read file offset len) h = tt
+file-named names name (call.Write file offset bytes rest) h = absurd h
+file-named names name (call.Truncate file len) h = tt
+file-named names name (call.Fork child) h = absurd h
+file-named names name call.Exit h = absurd h
+
 sound-act : (names : List (List ℕ)) → length names < 2 ^ 32 → (a : PlanAct) → IsSoundAct a → IsSoundAct (act_with_file names a)
 sound-act names few (act.Call c) h = h
-sound-act names few (act.Named name c) h = formed-named names few name c h
+sound-act names few (act.Named name c) h = (formed-named names few name c h.0, file-named names name c h.1)
 sound-act names few (act.Write name file offset bytes) h = (place-below 0 names name file (omega (arith, few)) h.0, h.1, h.2)
 sound-act names few act.Wait h = h
 

@@ -26,7 +26,7 @@ use Rattle.vm_script.specs.Plans.{OpenPlan, empty_plan, plan_seen, enclosing_blo
 use Rattle.vm_script.specs.Blocks.{IsInner, IsProcessBlock, ends, goes_on, forks, AreProcessBlocks, over, block}
 use Rattle.vm_script.specs.Told.{parent_of}
 use Rattle.vm_script.specs.Printed.{IsPlainCall, IsNamedCall, IsPlanAct}
-use Rattle.vm_script.specs.Sound.{IsSoundAct, IsSoundPlan}
+use Rattle.vm_script.specs.Sound.{IsSoundAct, IsSoundPlan, IsOfNoFile, IsOfNamedFile}
 use Rattle.vm_script.proofs.Placed.{IsPlaced, placed}
 
 -- what follows a place in a plan, where the block p is opened innermost
@@ -118,15 +118,15 @@ record Rest (g : OpenPlan) (plan : PlanSeen) (most : ℕ) : Type 0 where
   few_lines : length rest ≤ most
   few_blocks : length more ≤ most
 
-plain_call : (c : Call) → IsPlainCall c → IsWellFormed c
-plain_call (call.Load a n) h = h
-plain_call (call.Store a n v) h = (h.0, h.1, h.3)
-plain_call (call.Map at len prot kind object.NewZero offset) h = (h.0, h.1, h.2, tt, h.3)
+plain_call : (c : Call) → IsPlainCall c → IsWellFormed c × IsOfNoFile c
+plain_call (call.Load a n) h = (h, tt)
+plain_call (call.Store a n v) h = ((h.0, h.1, h.3), tt)
+plain_call (call.Map at len prot kind object.NewZero offset) h = ((h.0, h.1, h.2, tt, h.3), tt)
 plain_call (call.Map at len prot kind (object.File file) offset) h = absurd h
 plain_call (call.Map at len prot kind (object.Zero z) offset) h = absurd h
-plain_call (call.Unmap a len) h = h
-plain_call (call.Protect a len prot) h = h
-plain_call (call.Sync a len) h = h
+plain_call (call.Unmap a len) h = (h, tt)
+plain_call (call.Protect a len prot) h = (h, tt)
+plain_call (call.Sync a len) h = (h, tt)
 plain_call (call.Read file offset len) h = absurd h
 plain_call (call.Write file offset line rest) h = absurd h
 plain_call (call.Truncate file len) h = absurd h
@@ -136,18 +136,18 @@ plain_call call.Exit h = absurd h
 unknown_file_is : (file : ℕ) → file ≡ unknown_file → IsNumber file
 unknown_file_is file e = omega (arith, e)
 
-named_call : (c : Call) → IsNamedCall c → IsWellFormed c
+named_call : (c : Call) → IsNamedCall c → IsWellFormed c × IsOfNamedFile c
 named_call (call.Load a n) h = absurd h
 named_call (call.Store a n v) h = absurd h
 named_call (call.Map at len prot kind object.NewZero offset) h = absurd h
-named_call (call.Map at len prot kind (object.File file) offset) h = (h.0, h.1, h.2, unknown_file_is file h.3, h.4)
+named_call (call.Map at len prot kind (object.File file) offset) h = ((h.0, h.1, h.2, unknown_file_is file h.3, h.4), tt)
 named_call (call.Map at len prot kind (object.Zero z) offset) h = absurd h
 named_call (call.Unmap a len) h = absurd h
 named_call (call.Protect a len prot) h = absurd h
 named_call (call.Sync a len) h = absurd h
-named_call (call.Read file offset len) h = (unknown_file_is file h.0, h.1, let le = h.3 in omega (arith, le), h.2)
+named_call (call.Read file offset len) h = ((unknown_file_is file h.0, h.1, let le = h.3 in omega (arith, le), h.2), tt)
 named_call (call.Write file offset line rest) h = absurd h
-named_call (call.Truncate file len) h = (unknown_file_is file h.0, h.1)
+named_call (call.Truncate file len) h = ((unknown_file_is file h.0, h.1), tt)
 named_call (call.Fork c) h = absurd h
 named_call call.Exit h = absurd h
 
@@ -247,7 +247,7 @@ module _ (g : OpenPlan) (n : ℕ) (plan : PlanSeen) (most : ℕ) (opened : IsOpe
     completes = with_end plan.parents g.inside (length g.parents + 1) (length plan.parents + 1) n r.rest inside
         (subst (λ p. Completes plan.parents p (length g.parents + 1) r.rest (length plan.parents + 1))
         (sym (ap (λ ps. enclosing_block ps g.inside) (sym r.is_parents) ∙ outside_front g.parents r.more g.inside opened.inside)) r.completes);
-    acts = All-cons (λ (l : PlanLine). IsSoundAct l.act) _ _ tt r.acts;
+    acts = All-cons (λ (l : PlanLine). IsSoundAct l.act) _ _ (tt, tt) r.acts;
     few_lines = let le = r.few_lines in omega (arith, le);
     few_blocks = let le = r.few_blocks in omega (arith, le);
   }
@@ -295,7 +295,7 @@ module _ (g : OpenPlan) (n : ℕ) (plan : PlanSeen) (most : ℕ) (opened : IsOpe
             (λ k. Completes plan.parents g.inside k (record { line = n; process = g.inside; act = act.Call (call.Fork k) } ∷ r.rest)
             (length plan.parents + 1))
             (sym (plus_one (length g.parents))) made;
-        acts = All-cons (λ (l : PlanLine). IsSoundAct l.act) _ _ few r.acts;
+        acts = All-cons (λ (l : PlanLine). IsSoundAct l.act) _ _ (few, tt) r.acts;
         few_lines = let le = r.few_lines in omega (arith, le);
         few_blocks = let le = r.few_blocks in omega (arith, le);
       }

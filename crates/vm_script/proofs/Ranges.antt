@@ -14,7 +14,7 @@ use Rattle.vm_script.specs.Blocks.{IsInner, IsProcessBlock, ends, goes_on, forks
 use Rattle.vm_script.specs.Told.{parent_of}
 
 -- the lines of a process
-abbrev own_of : ℕ → List PlanLine → List PlanLine
+abbrev pub own_of : ℕ → List PlanLine → List PlanLine
 own_of p lines = filter (λ l. l.process == p) lines
 
 -- all lines of a block are its own or of blocks that begin in it
@@ -47,7 +47,7 @@ within parents p n m lines (forks _ _ k _ line child rest is inside more) =
     }
 
 -- where no line is p's
-none_own : (p : ℕ) (P : PlanLine → Type 0) (lines : List PlanLine) → All P lines → ((l : PlanLine) → P l → l.process ≡ p → ⊥) → own_of p lines ≡ []
+pub none_own : (p : ℕ) (P : PlanLine → Type 0) (lines : List PlanLine) → All P lines → ((l : PlanLine) → P l → l.process ≡ p → ⊥) → own_of p lines ≡ []
 none_own p P [] all else = refl
 none_own p P (l ∷ lines) all else =
     let rest = none_own p P lines (All-tail P l lines all) else in
@@ -55,7 +55,7 @@ none_own p P (l ∷ lines) all else =
     (λ not. ap (λ b. cond b (l ∷ own_of p lines) (own_of p lines)) not ∙ rest)
     (cases_Bool (l.process == p))
 
-not_own : (p : ℕ) (l : PlanLine) (lines : List PlanLine) → (l.process ≡ p → ⊥) → own_of p (l ∷ lines) ≡ own_of p lines
+pub not_own : (p : ℕ) (l : PlanLine) (lines : List PlanLine) → (l.process ≡ p → ⊥) → own_of p (l ∷ lines) ≡ own_of p lines
 not_own p l lines else =
     ⊎_elim (λ yes. absurd (else (eqb-true l.process p yes)))
     (λ not. ap (λ b. cond b (l ∷ own_of p lines) (own_of p lines)) not)
@@ -108,7 +108,7 @@ behind_all parents p xs ys none f = record {
 }
 
 -- none of these lines is p's, by the numbers
-outside_own : (q n m p : ℕ) (lines : List PlanLine) → All (IsWithin q n m) lines → (q ≡ p → ⊥) → (n ≤ p → p < m → ⊥) → own_of p lines ≡ []
+pub outside_own : (q n m p : ℕ) (lines : List PlanLine) → All (IsWithin q n m) lines → (q ≡ p → ⊥) → (n ≤ p → p < m → ⊥) → own_of p lines ≡ []
 outside_own q n m p lines all else far = none_own p (IsWithin q n m) lines all
     (λ l h is. ⊎_elim (λ own. else (sym own ∙ is)) (λ r. let a = r.0 in let b = r.1 in far (omega (arith, a, is)) (omega (arith, b, is))) h)
 
