@@ -11,6 +11,7 @@ use Rattle.volume_files.specs.vm_types.declared.call.Entry.{Entry}
 use Rattle.volume_files.specs.vm_report.Report.{file_lines}
 use Rattle.volume_files.specs.vm_report.Trace.{disk_text, entries_text, file_text, opening_text, root_text, roots_text}
 use Rattle.volume_files.specs.vm_script.PlanSeen.{PlanSeen}
+use Rattle.volume_files.specs.vm_script.Processes.{kernel_parents}
 use Rattle.volume_files.specs.vm_script.Rules.{amounts_of}
 use Rattle.volume_files.specs.declared.showing.Heading.TheVariants.{Trace as traced}
 use Rattle.volume_files.specs.Opened.{OpenedFile, infos_of, opened_flat_file, opening_flat, top_processes}
@@ -77,7 +78,7 @@ printed_stands plan sizes files bytes H are may =
       trace = told_trace plan sizes files H;
       is = may;
       print =
-          ap₂ (λ (front sections : List ℕ). (front ++ sections) ++ entries_text H) (front_told slots sizes plan.parents) (sections_told bytes 0 files told own);
-      flat = ap (λ (fs : List File). flat_at_opening slots (finite.from_entries sizes) fs (top_processes 1 plan.parents)) (sym (files_told files own));
+          ap₂ (λ (front sections : List ℕ). (front ++ sections) ++ entries_text H) (front_told slots sizes (kernel_parents plan)) (sections_told bytes 0 files told own);
+      flat = ap (λ (fs : List File). flat_at_opening slots (finite.from_entries sizes) fs (top_processes 1 (kernel_parents plan))) (sym (files_told files own));
       history = refl;
     }

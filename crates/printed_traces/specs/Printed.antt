@@ -4,6 +4,7 @@ use Rattle.volume_files.specs.vm_types.declared.call.Entry.{Entry}
 use Rattle.volume_files.specs.flat_model.History.{Legal}
 use Rattle.volume_files.specs.vm_report.Trace.{entries_text}
 use Rattle.volume_files.specs.vm_script.PlanSeen.{PlanSeen}
+use Rattle.volume_files.specs.vm_script.Processes.{kernel_parents}
 use Rattle.volume_files.specs.vm_script.Rules.{amounts_of}
 use Rattle.volume_files.specs.declared.showing.Heading.TheVariants.{Trace as traced}
 use Rattle.volume_files.specs.Opened.{OpenedFile, infos_of, opening_flat, top_processes}
@@ -33,7 +34,7 @@ abbrev pub told_trace : PlanSeen → List (ℕ × ℕ) → List OpenedFile → L
 told_trace plan sizes files H = record {
   slots = (amounts_of plan.setup).slots;
   disks = sizes;
-  roots = top_processes 1 plan.parents;
+  roots = top_processes 1 (kernel_parents plan);
   files = map told_file files;
   history = H;
 }

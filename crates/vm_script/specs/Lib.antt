@@ -11,6 +11,7 @@ pub mod Lines
 pub mod PlanSeen
 pub mod Plans
 pub mod Printed
+pub mod Processes
 pub mod Quick
 pub mod ReadLines
 pub mod Reading

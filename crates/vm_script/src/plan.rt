@@ -1,6 +1,7 @@
 //! The plan of a script.
 ghost use Rattle.std.specs.Prelude.{◌≡◌, ◌<◌, ◌^◌, length};
 ghost use Rattle.vm_script.specs.FileNames.{with_files};
+ghost use Rattle.vm_script.specs.Processes.{kernel_parents};
 
 use crate::byte_text::ByteText;
 use crate::file_names::set_line_file;
@@ -125,11 +126,18 @@ impl Plan {
         &self.lines
     }
 
-    /// The parents of the processes.
+    /// The parents of the blocks.
     pub fn parents(&self) -> &[u32]
         ensures { result.now ≡ self.now.parents }
     {
         &self.parents
+    }
+
+    /// The parents of the kernel's processes, which are the blocks.
+    pub fn kernel_parents(&self) -> &[u32]
+        ensures { result.now ≡ kernel_parents self.now }
+    {
+        self.parents()
     }
 
     /// Makes each file number the place of the line's name in these names, fewer than 2^32, the first

@@ -25,6 +25,7 @@ use Rattle.vm_report.specs.vm_script.declared.plan.SetupAct.TheVariants as given
 use Rattle.vm_report.specs.vm_script.declared.plan.SetupLine.{SetupLine}
 use Rattle.vm_report.specs.vm_script.FileNames.{with_files}
 use Rattle.vm_report.specs.vm_script.PlanSeen.{PlanSeen}
+use Rattle.vm_report.specs.vm_script.Processes.{kernel_parents}
 use Rattle.vm_report.specs.vm_script.Rules.{amounts_of, gives_disk, is_from_to}
 use Rattle.volume_files.specs.declared.stops.Refusal.{Refusal}
 use Rattle.volume_files.specs.declared.stops.Refusal.TheVariants as refusal
@@ -223,4 +224,4 @@ top_processes p (parent ∷ parents) = if parent == 0 then p ∷ top_processes (
 -- FLAT MEMORY AS THE PROCESSES FIND IT: the swap slots, the disks of these numbers and sizes, these files, and each top process with an empty space.
 abbrev pub opening_flat : PlanSeen → List (ℕ × ℕ) → List OpenedFile → Flat
 opening_flat plan sizes files =
-    flat_at_opening (amounts_of plan.setup).slots (finite.from_entries sizes) (map opened_flat_file files) (top_processes 1 plan.parents)
+    flat_at_opening (amounts_of plan.setup).slots (finite.from_entries sizes) (map opened_flat_file files) (top_processes 1 (kernel_parents plan))

@@ -8,6 +8,7 @@ use Rattle.volume_format.specs.vnode_files.declared.vnode.FileInfo.{FileInfo}
 use Rattle.vm_report.specs.Report.{file_heading, file_lines}
 use Rattle.vm_report.specs.Trace.{opening_text, file_text}
 use Rattle.vm_report.specs.vm_script.PlanSeen.{PlanSeen}
+use Rattle.vm_report.specs.vm_script.Processes.{kernel_parents}
 use Rattle.vm_report.specs.vm_script.Rules.{amounts_of}
 use Rattle.volume_files.specs.declared.showing.Heading.{Heading}
 use Rattle.volume_files.specs.declared.showing.Heading.TheVariants.{Report, Trace}
@@ -46,7 +47,7 @@ pub record IsPageUnread (infos : List FileInfo) (file page disk : ℕ) : Type 0 
 
 -- A trace before its files.
 abbrev pub trace_front : PlanSeen → List (ℕ × ℕ) → List ℕ
-trace_front plan sizes = opening_text (amounts_of plan.setup).slots sizes plan.parents
+trace_front plan sizes = opening_text (amounts_of plan.setup).slots sizes (kernel_parents plan)
 
 -- The whole text was written.
 abbrev pub Wrote : SinkSeen → SinkSeen → List ℕ → Type 0

@@ -91,5 +91,5 @@ fn push_front<D: Disk>(
 {
     let sizes = sizes_of(alloc, disks)?;
     let slots = amounts_of(plan.setup()).slots;
-    vm_report::trace_opening(slots, &sizes, plan.parents(), text)
+    vm_report::trace_opening(slots, &sizes, plan.kernel_parents(), text)
 }
