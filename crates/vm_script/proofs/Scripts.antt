@@ -1,6 +1,6 @@
 -- A printed script is read as what was printed.
 use Rattle.vm_script.proofs.Placed.{and_right}
-use Rattle.std.proofs.Common.{◌≡◌, ℕ, zero, suc, ◌≤◌, ◌<◌, ◌^◌, ◌+◌, ◌*◌, Bool, true, false, not, ◌&&◌, List, [], ◌∷◌, length, Ok, refl, sym, ap, ap₂, ◌∙◌, subst, append_assoc, arith, ⊎_elim, lit<}
+use Rattle.std.proofs.Common.{◌≡◌, ℕ, zero, suc, ◌≤◌, ◌<◌, ◌^◌, ◌+◌, ◌*◌, Bool, true, false, not, List, [], ◌∷◌, length, Ok, refl, sym, ap, ap₂, ◌∙◌, subst, append_assoc, arith, ⊎_elim, lit<}
 use Rattle.std.specs.Prelude.{All, codes, decimal, nat_lt, nat_le, if◌then◌else◌}
 use Rattle.std.specs.List.{list_all}
 use Rattle.std.proofs.lemmas.Bool.{false≢true}

@@ -53,13 +53,11 @@ pub fn needs_too_many(lines: &[PlanLine]) -> bool
     ensures { result ≡ nat_lt MOST_ENTRIES (entry_count lines.now) }
 {
     let mut count = 0;
-    let mut left = lines;
-    while let [line, rest @ ..] = left {
+    for line in lines {
         count += parts(line);
         if MOST_ENTRIES < count {
             return true;
         }
-        left = rest;
     }
     false
 }
