@@ -38,7 +38,8 @@ pub fn push_decimal(out: &mut Vec<u8>, number: u64) -> Result<(), AllocError>
     push_text(out, buffer.format(number).as_bytes())
 }
 
-/// Adds a number of 32 bits in decimal.
+/// Adds a number of 32 bits in decimal. Each line of a report begins with one.
+#[inline(always)]
 pub fn push_number(out: &mut Vec<u8>, number: u32) -> Result<(), AllocError>
     ensures { OnOk result (out.new.items ≡ out.old.items ++ decimal number) }
 {
