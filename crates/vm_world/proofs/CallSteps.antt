@@ -42,7 +42,7 @@ use Rattle.vm_world.proofs.Changes.{machine-kept, changes-then}
 use Rattle.vm_world.proofs.Entries.{entry-history, entry-faults, entry-calls, entry-rooms, entry-births, entry-part, not-left}
 use Rattle.vm_world.proofs.MayFails.{alive-flat}
 use Rattle.vm_world.proofs.Shapes.{follows-entry, tables-shape}
-use Rattle.vm_world.proofs.StateSteps.{same-seats, sizes-still}
+use Rattle.vm_world.proofs.StateSteps.{same-seats, disks-still}
 
 -- a call that is no Fork makes no process
 unborn : (F : Flat) (call : Call) → ((child : ℕ) → call ≢ Fork child) → IsUnborn F call
@@ -131,7 +131,7 @@ rule-done s new seat e calls syncs act keeps may locks starts count = record {
     parents = s.parents;
     entries = s.entries;
   };
-  sizes = λ opening seats is fit. sizes-still s (with_entry_made (record s { memory = new }) e calls syncs) seat None act.machine.bays seats is;
+  disks = λ opening seats is fit. disks-still s (with_entry_made (record s { memory = new }) e calls syncs) seat None act.machine.bays seats is;
   grown = (e ∷ [], refl, All-cons (λ (x : Entry). seat_of x.process ≡ seat) e [] may.try.own (All-nil (λ (x : Entry). seat_of x.process ≡ seat)));
   follows = λ opening was. follows-entry opening s (with_entry_made (record s { memory = new }) e calls syncs) e refl (λ notes. act.shaped s.born notes) (λ own. may.refusal) was;
 }
