@@ -18,5 +18,5 @@ module _ {D P E : Type 0} (seen : D → DiskSeen) (pairs : D → Option D → Bo
 
 -- A disk that was attached after another.
 pub disk_behind : {D : Type 0} (seen : D → DiskSeen) (holds now : Spec → Option (List (List ℕ))) (s : Spec) (d : NumberedDisk D) → now s ≡ holds s → d.number ≡ spec_number s
-    → IsAttached s (now s) (seen d.disk) → (seen d.disk).faults ≡ 0 → IsDiskFor seen holds s d
-disk_behind seen holds now s d same number attached none = record { number = number; attached = subst (λ h. IsAttached s h (seen d.disk)) same attached; unfailed = none }
+    → IsAttached s (now s) (seen d.disk) → (seen d.disk).kind.members ≡ 1 → (seen d.disk).faults ≡ 0 → IsDiskFor seen holds s d
+disk_behind seen holds now s d same number attached one none = record { number = number; attached = subst (λ h. IsAttached s h (seen d.disk)) same attached; single = one; unfailed = none }

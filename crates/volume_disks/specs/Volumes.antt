@@ -45,10 +45,11 @@ size_fault first second =
 abbrev pub sized : {D : Type 0} → (D → DiskSeen) → NumberedDisk D → ℕ × ℕ
 sized seen d = (d.number, (seen d.disk).size)
 
--- A disk that was attached for this spec, and has counted no fault.
+-- A disk that was attached for this spec: one disk, which has counted no fault.
 pub record IsDiskFor {D : Type 0} (seen : D → DiskSeen) (holds : Spec → Option (List (List ℕ))) (s : Spec) (d : NumberedDisk D) : Type 0 where
   pub number : d.number ≡ spec_number s
   pub attached : IsAttached s (holds s) (seen d.disk)
+  pub single : (seen d.disk).kind.members ≡ 1
   pub unfailed : (seen d.disk).faults ≡ 0
 
 -- THE VOLUME WAS ATTACHED: it stands for the disk of its spec, or for those of its two specs, whose sizes are right and equal; and it has the number of the first.

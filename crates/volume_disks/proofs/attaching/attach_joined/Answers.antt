@@ -12,10 +12,10 @@ returns-in-None-clause-ok g c =
     let a = c.in-Ok.ensures in
     let b = c.in-Ok-attach.ensures in
     volume_made seen g.P.Pairing.pairs old.holds (Joined c.args.first.now c.args.second.now c.args.mirror) c.in-Ok.disk (Some c.in-Ok-attach.disk)
-    (record { number = a.attached.0; attached = a.attached.1; unfailed = a.unfailed }) (
+    (record { number = a.attached.0; attached = a.attached.1; single = a.single; unfailed = a.unfailed }) (
       c.in-Ok-attach.disk,
       refl,
-      disk_behind seen old.holds mid.holds c.args.second.now c.in-Ok-attach.disk (c.attach.ensures.others c.args.second.now c.requires) b.attached.0 b.attached.1 b.unfailed,
+      disk_behind seen old.holds mid.holds c.args.second.now c.in-Ok-attach.disk (c.attach.ensures.others c.args.second.now c.requires) b.attached.0 b.attached.1 b.single b.unfailed,
       sym c.size_fault.ensures ∙ c.in-None.is,
     )
     c.paired.result c.paired.ensures.stands c.paired.ensures.number
