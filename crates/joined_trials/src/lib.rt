@@ -10,3 +10,5 @@ mod mirror_tests;
 mod pair_tests;
 #[cfg(test)]
 mod stripe_tests;
+#[cfg(test)]
+mod volume_tests;
