@@ -34,6 +34,7 @@ use Rattle.vm_run.proofs.Courses.{ended, begun, closes, closed-bytes, late-cause
 blocks-read : (d e f : DiskSeen) → KeepsBlocks d e → OnlyReads e f → KeepsBlocks d f
 blocks-read d e f k r = record {
   size = r.size ∙ k.size;
+  kind = r.kind ∙ k.kind;
   faults = let low = k.faults in let high = r.faults in omega (arith, low, high);
   untold = λ is. r.content ∙ k.untold is;
   told = λ blocks is. let now = k.told blocks is in (now.0, r.content ∙ now.1, now.2, now.3);

@@ -1,6 +1,6 @@
 -- How a run ends whose files were closed.
 use Rattle.vm_core.proofs.page_store.FrameLaws.{unset as no-make}
-use Rattle.std.proofs.Common.{◌≡◌, ℕ, ◌≤◌, List, ◌++◌, true, false, refl, sym, subst}
+use Rattle.std.proofs.Common.{◌≡◌, ◌∙◌, ℕ, ◌≤◌, List, ◌++◌, true, false, ap, refl, sym, subst, inl, inr}
 use Rattle.std.specs.Prelude.{Bool, Option, Some, None, is_some}
 use Rattle.std.proofs.Common.{append-nil}
 use Rattle.std.proofs.lemmas.Bool.{false≢true}
@@ -20,6 +20,8 @@ use Rattle.vm_run.specs.Course.{CloseEnds, LacksTable, MiddleStops, ShowEnds, sh
 use Rattle.volume_files.specs.Texts.{Wrote, WroteFront, WrotePart}
 use Rattle.vm_run.specs.AskedTexts.{files_or_none, middle_text}
 use Rattle.volume_files.specs.Written.{disk_fault_counts, AreFilesBytes, IsShowStop}
+use Rattle.volume_files.specs.Handed.{kinds_of}
+use Rattle.volume_files.proofs.DiskCounts.{kinds-read, kinds-written}
 use Rattle.volume_files.proofs.WrittenTexts.{risen_since, wrote_then}
 use Rattle.volume_files.proofs.WrittenTexts.{front_then, part_more, part_then}
 
@@ -76,3 +78,14 @@ lacks-closed whole fault o plan H infos k0 k1 old new how is same h = subst (λ 
     by : (f : Option DiskFault) → (is_some f ≡ true → new ≡ old) → CloseEnds false f o plan H infos k0 k1 old new how
     by None same = h
     by (Some f) same = (same refl, h)
+
+-- each disk has its kind
+pub close-kinds : (whole : Bool) (fault : Option DiskFault) (o : Options) (plan : PlanSeen) (H : List Entry) (infos : List FileInfo) (k0 k1 : SinkSeen) (old new : List (ℕ × DiskSeen)) (how : Ending)
+    → CloseEnds whole fault o plan H infos k0 k1 old new how → kinds_of new ≡ kinds_of old
+close-kinds false (Some f) o plan H infos k0 k1 old new how e = ap kinds_of e.0
+close-kinds false None o plan H infos k0 k1 old new how e = kinds-written old new e.writes
+close-kinds true (Some f) o plan H infos k0 k1 old new how e = ap kinds_of e.0
+close-kinds true None o plan H infos k0 k1 old new how e = elim e [
+  | inl shown ↦ kinds-read shown.mid new shown.reads ∙ kinds-written old shown.mid shown.writes
+  | inr stopped ↦ elim stopped [ inl fails ↦ kinds-written old new fails.writes | inr lacks ↦ kinds-written old new lacks.writes ]
+]

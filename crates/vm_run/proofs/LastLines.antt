@@ -17,7 +17,7 @@ use Rattle.vm_run.specs.declared.ending.TraceEnd.TheVariants as ends
 use Rattle.vm_run.specs.TraceChecks.{StopsInAnswer, WroteAnswer}
 use Rattle.vm_run.specs.Ending.{answer_text, fault_of, last_line_of, status_of}
 use Rattle.vm_run.specs.Ended.{End}
-use Rattle.volume_files.specs.Handed.{handed_count}
+use Rattle.volume_files.specs.Handed.{member_count}
 use Rattle.vm_run.specs.Reading.{IsConcluded}
 use Rattle.vm_run.specs.Run.{CaseOf, RunEnds, EndsBare, EndsTold, LacksLine, NoneFailed, Outside}
 use Rattle.vm_run.specs.Run.{middle_of, opening_of, opening_part, report_of, whole_text, wrote_all, wrote_before}
@@ -197,7 +197,7 @@ module _ (g : Given) (s0 s1 r0 r1 n0 n1 : ℕ) (k0 k1 k2 : SinkSeen) (first : k0
   pub ends-so : (H H-new : HistorySeen) (d d-new : List DiskSeen) (w w-new : Option DiskSeen) → H-new ≡ H → d-new ≡ d → w-new ≡ w → (was how : Ending) (st : ℕ) (ft : Option RunFault)
       → ((x : ℕ) (y : Option RunFault) → CaseOf g (seen k1) (wrote_before (seen k1)) (record { status = x; fault = y; history = H; disks = d; swap = w }) was)
       → (was ≡ ending.Memory → NoneFailed (seen k1))
-      → IsConcluded was k1 k2 how → st ≡ status_of how → ft ≡ fault_of how → n1 ≡ n0 + handed_count d-new w-new
+      → IsConcluded was k1 k2 how → st ≡ status_of how → ft ≡ fault_of how → n1 ≡ n0 + member_count d-new w-new
       → RunEnds g (seen k2) (record { status = st; fault = ft; history = H-new; disks = d-new; swap = w-new })
   ends-so H H-new d d-new w w-new a b c was how st ft case hides concluded status fault back = record {
     how = how;

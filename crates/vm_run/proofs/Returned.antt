@@ -39,9 +39,10 @@ use Rattle.vm_core.specs.Finish.{disk_at, disks_of, HoldAllFiles, IsLastFault, K
 use Rattle.vm_core.proofs.Fills.{are-kept, number-of}
 use Rattle.vm_core.proofs.Finishes.{still, disk-in-order, are-disks}
 use Rattle.volume_files.specs.Attached.{bare_disks}
-use Rattle.volume_files.specs.Handed.{HaveTold, IsSwapFor}
+use Rattle.volume_files.specs.Handed.{HaveTold, IsSwapFor, swap_members}
 use Rattle.vm_run.specs.Played.{LeftSeen, IsDiskOf, DisksCameBack, IsClosingFault, KernelLeaves, SwapCameBack}
 use Rattle.volume_files.specs.Written.{HaveDisks}
+use Rattle.volume_files.proofs.DiskCounts.{same-maps}
 
 -- What a kernel in this state leaves as it is closed.
 pub record Closes (t : KernelState) (l : LeftSeen) : Type 0 where
@@ -78,14 +79,6 @@ at-place L i d at = index-of L i (0, no_disk) d at
 get-place : (L : List (ℕ × DiskSeen)) (i : ℕ) → i < length L → slice_get L i ≡ Some (disk_at L i)
 get-place L i lt = slice_get-get_or L i (0, no_disk) lt
 
-same-maps : {A B X : Type 0} (f : A → X) (g : B → X) (xs : List A) (ys : List B) → length xs ≡ length ys
-    → ((i : ℕ) (x : A) (y : B) → slice_get xs i ≡ Some x → slice_get ys i ≡ Some y → f x ≡ g y) → map f xs ≡ map g ys
-same-maps f g [] [] long same = refl
-same-maps f g [] (y ∷ ys) long same = absurd (omega (arith, long))
-same-maps f g (x ∷ xs) [] long same = absurd (omega (arith, long))
-same-maps {A} {B} {X} f g (x ∷ xs) (y ∷ ys) long same =
-    ap (λ (z : X). z ∷ map f xs) (same 0 x y refl refl) ∙ ap (λ (zs : List X). g y ∷ zs) (same-maps f g xs ys (omega (arith, long)) (λ i a b p q. same (suc i) a b p q))
-
 -- a swap disk that came back with its size serves the slots as it did
 swap-back : (slots : ℕ) (old new : Option DiskSeen) → SwapCameBack (bay_of old) new → IsSwapFor slots old → IsSwapFor slots new
 swap-back slots None None same serves = serves
@@ -96,6 +89,16 @@ swap-back slots (Some x) (Some d) same serves = (serves.0, ap (λ (p : ℕ × Di
 pub swap-serves-still : (slots : ℕ) (swap : Option DiskSeen) (F : Flat) (s : KernelState) (l : LeftSeen) → bay_at s.memory.world.store.bays 8 ≡ bay_of swap → KernelLeaves F s l
     → IsSwapFor slots swap → IsSwapFor slots l.swap
 swap-serves-still slots swap F s l at left serves = swap-back slots swap l.swap (subst (λ (b : BaySeen). SwapCameBack b l.swap) at left.swap) serves
+
+-- and it is as many disks
+swap-as-many : (old new : Option DiskSeen) → SwapCameBack (bay_of old) new → swap_members new ≡ swap_members old
+swap-as-many None None same = refl
+swap-as-many None (Some d) same = absurd (none-some (disk_fixed d) (sym same))
+swap-as-many (Some x) None same = absurd (none-some (disk_fixed x) same)
+swap-as-many (Some x) (Some d) same = ap (λ (p : ℕ × DiskKind). p.1.members) (some-inj (disk_fixed d) (disk_fixed x) same)
+
+pub swap-still : (swap : Option DiskSeen) (F : Flat) (s : KernelState) (l : LeftSeen) → bay_at s.memory.world.store.bays 8 ≡ bay_of swap → KernelLeaves F s l → swap_members l.swap ≡ swap_members swap
+swap-still swap F s l at left = swap-as-many swap l.swap (subst (λ (b : BaySeen). SwapCameBack b l.swap) at left.swap)
 
 module _ (F : Flat) (s t : KernelState) (l : LeftSeen) (since : IsSince s t no_seats) (before : StateFits F s no_seats) (c : Closes t l) where
   after : StateFits F t no_seats
@@ -235,6 +238,17 @@ module _ (F : Flat) (s t : KernelState) (l : LeftSeen) (since : IsSince s t no_s
       (after.memory.disks.sizes (disk_at old i).0 (disk_at old i).1 (home-after i lt)).file (disk_at start i).1.size
       (ap (λ (m : finite.FinMap nat_cmp ℕ). finite.get m (disk_at old i).0) (files-same ∙ ap (λ (g : FilesSeen). g.disks) placed) ∙ ap (finite.get files.disks) (number-same i lt) ∙ set)
 
+  -- THE KINDS, which no event changes
+  home-before : (i : ℕ) → i < length start → bay_at s.memory.world.store.bays (disk_at start i).0 ≡ home (disk_at start i).1
+  home-before i lt = home-there s.memory.world s.memory.spaces i before.memory before.notes lt
+
+  kind-same : (i : ℕ) → i < length old → (disk_at old i).1.kind ≡ (disk_at start i).1.kind
+  kind-same i lt =
+      let inside : i < length start = let e = long-old in omega (arith, lt, e) in
+      let now : disk_there t no_seats (disk_at old i).0 ≡ Some (disk_fixed (disk_at old i).1) = ap (λ (b : BaySeen). seen_in disk_fixed b no_notes) (home-after i lt) in
+      let was : disk_there s no_seats (disk_at start i).0 ≡ Some (disk_fixed (disk_at start i).1) = ap (λ (b : BaySeen). seen_in disk_fixed b no_notes) (home-before i inside) in
+      ap (λ (p : ℕ × DiskKind). p.1) (some-inj (disk_fixed (disk_at old i).1) (disk_fixed (disk_at start i).1) (sym now ∙ since.disks (disk_at old i).0 ∙ ap (disk_there s no_seats) (number-same i lt) ∙ was))
+
   pub disks-left : (files : FilesSeen) → HaveDisks files start → s.memory.world.files ≡ files → DisksCameBack start l.disks
   disks-left files have placed = record {
     count = long-new ∙ long-old;
@@ -242,6 +256,8 @@ module _ (F : Flat) (s t : KernelState) (l : LeftSeen) (since : IsSince s t no_s
         (kept i d at).number ∙ number-same i (within-new i d at) ∙ ap (λ (x : ℕ × DiskSeen). x.0) (at-place start i e is));
     sizes = same-maps (λ (d : ℕ × DiskSeen). d.1.size) (λ (d : ℕ × DiskSeen). d.1.size) l.disks start (long-new ∙ long-old) (λ i d e at is.
         (kept i d at).size ∙ size-same files have placed i (within-new i d at) ∙ ap (λ (x : ℕ × DiskSeen). x.1.size) (at-place start i e is));
+    kinds = same-maps (λ (d : ℕ × DiskSeen). d.1.kind) (λ (d : ℕ × DiskSeen). d.1.kind) l.disks start (long-new ∙ long-old) (λ i d e at is.
+        (kept i d at).kind ∙ kind-same i (within-new i d at) ∙ ap (λ (x : ℕ × DiskSeen). x.1.kind) (at-place start i e is));
   }
 
   -- THE SWAP DISK has its size

@@ -87,11 +87,12 @@ left_seen seen f = record { history = f.history; files = f.files; disks = pairs_
 abbrev pub IsDiskOf : List (ℕ × DiskSeen) → Option DiskSeen → ℕ → DiskSeen → Type 0
 IsDiskOf disks swap number d = ((i : ℕ) × (slice_get disks i ≡ Some (number, d))) ⊎ ((number ≡ 8) × (swap ≡ Some d))
 
--- Disks came back that went: with their numbers, in their order, and their sizes.
+-- Disks came back that went: with their numbers, in their order, their sizes and their kinds.
 pub record DisksCameBack (old new : List (ℕ × DiskSeen)) : Type 0 where
   pub count : length new ≡ length old
   pub numbers : map (λ (d : ℕ × DiskSeen). d.0) new ≡ map (λ (d : ℕ × DiskSeen). d.0) old
   pub sizes : map (λ (d : ℕ × DiskSeen). d.1.size) new ≡ map (λ (d : ℕ × DiskSeen). d.1.size) old
+  pub kinds : map (λ (d : ℕ × DiskSeen). d.1.kind) new ≡ map (λ (d : ℕ × DiskSeen). d.1.kind) old
 
 -- The swap disk came back with its size and its kind, where there was one.
 abbrev pub SwapCameBack : BaySeen → Option DiskSeen → Type 0

@@ -29,7 +29,7 @@ use Rattle.volume_files.specs.Closed.{StoreFiles, SayTables, infos_in_flat, flat
 use Rattle.vm_run.specs.Ending.{status_of, fault_of, last_line_of}
 use Rattle.vm_run.specs.Ended.{End, HasLateCause, CountsReach}
 use Rattle.volume_files.specs.Handed.{AreUncounted, AreUntouched, AreWrittenAt, HaveTold, RackTells, HandsNone, HandsFront, HandsAll, HandsRefused, HasDiskCause}
-use Rattle.volume_files.specs.Handed.{HasOpeningCause, HasRefusalCause, StopsAttaching, volumes_of, sizes_of, handed_count}
+use Rattle.volume_files.specs.Handed.{HasOpeningCause, HasRefusalCause, StopsAttaching, volumes_of, sizes_of, member_count}
 use Rattle.volume_files.specs.Opened.{line_files_of, ComesTo, OpenedFile, opened_files, infos_of, names_of, numbered_plan, opening_flat}
 use Rattle.volume_files.specs.Texts.{Wrote, WroteAndFront, WroteAndPart, WroteFront, WroteOn, WrotePart, IsPageUnread, sections_before, trace_front}
 use Rattle.vm_run.specs.AskedTexts.{files_or_none, middle_text, trace_opening}
@@ -351,7 +351,7 @@ pub record RunEnds (g : Given) (o : Outside) (e : End) : Type 0 where
   pub how : Ending
   pub status : e.status ≡ status_of how
   pub fault : e.fault ≡ fault_of how
-  pub back : o.attached_new ≡ o.attached_old + handed_count e.disks e.swap
+  pub back : o.attached_new ≡ o.attached_old + member_count e.disks e.swap
   pub case : EndsTold g o e how ⊎ LacksLine g o e how
 
 -- A fault that a disk counted.

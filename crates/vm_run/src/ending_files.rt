@@ -5,6 +5,7 @@ ghost use Rattle.vm_core.specs.page_store.Bays.{pairs_seen};
 ghost use Rattle.volume_files.specs.vm_report.Faults.{disk_fault_text};
 ghost use Rattle.volume_files.specs.vm_types.WellFormed.{IsWellFormed};
 ghost use Rattle.volume_files.specs.Attached.{HaveVolumeNames, bare_disks};
+ghost use Rattle.volume_files.specs.Handed.{member_count};
 ghost use Rattle.volume_files.specs.block_device.DiskSeen.{DiskSeen};
 ghost use Rattle.vm_run.specs.Course.{CloseEnds, CloseFails, MiddleStops, ShowEnds, TablesEnd, UnlessEnded, showing_stop};
 ghost use Rattle.vm_run.specs.declared.ending.Ending.TheVariants.{Memory};
@@ -264,7 +265,9 @@ pub fn end_run<D: Disk, K: Sink>(
     // What is handed back.
     ensures history { result.history ≡ played.finished.history }
     ensures swap { result.swap ≡ played.finished.swap }
-    ensures count { length result.disks.items ≡ length played.finished.disks.items }
+    ensures count { member_count (map D.seen result.disks.items) (option_map D.seen result.swap)
+        ≡ member_count (bare_disks (pairs_seen D.seen played.finished.disks.items))
+        (option_map D.seen played.finished.swap) }
     ensures later { (K.seen out.old).faults ≤ (K.seen out.new).faults }
     ensures hides { result.ending ≡ Memory → (K.seen out.new).faults ≡ (K.seen out.old).faults }
 {

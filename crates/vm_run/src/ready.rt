@@ -4,7 +4,7 @@ ghost use Rattle.volume_files.specs.block_device.declared.rack.Spec.{Spec};
 ghost use Rattle.vm_run.specs.Asked.{Given, Asked, WasAsked, given_of};
 ghost use Rattle.volume_files.specs.Attached.{AreAttached, ArePlaced, HasRooms, attached_seen, bare_disks, numbered_seen};
 ghost use Rattle.vm_run.specs.Course.{HasCase, IsReady, IsReadPlan, AreReadBytes, Traces, opening_stop};
-ghost use Rattle.volume_files.specs.Handed.{AreUncounted, handed_count};
+ghost use Rattle.volume_files.specs.Handed.{AreUncounted, member_count};
 ghost use Rattle.volume_files.specs.Opened.{OpenedFile, numbered_plan};
 ghost use Rattle.vm_run.specs.Played.{IsPlayable};
 ghost use Rattle.vm_run.specs.Run.{NoneFailed, Outside, outside_of};
@@ -70,8 +70,9 @@ fn stop_untraced<D: Disk>(how: Ending, attached: Attached<D>) -> Stop<D>
     ensures counts { result.history.faults ≡ [] }
     ensures disks { result.disks.items ≡ map (λ d. d.disk) attached.disks.items }
     ensures swap { result.swap ≡ option_map (λ d. d.disk) attached.swap }
-    ensures count { handed_count result.disks.items result.swap
-        ≡ handed_count attached.disks.items attached.swap }
+    ensures count { member_count (map D.seen result.disks.items) (option_map D.seen result.swap)
+        ≡ member_count (bare_disks (attached_seen D.seen attached).disks)
+        (attached_seen D.seen attached).swap }
 {
     Stop {
         ending: how,
@@ -148,9 +149,10 @@ pub fn make_ready<S: Source, K: Sink, R: Rack>(
         R.D.seen) }
     // Each disk that the rack attached is there, or is handed back.
     ensures kept { IfOk result (λ r. (R.seen rack.new).attached ≡ (R.seen rack.old).attached
-        + handed_count r.placed.attached.disks.items r.placed.attached.swap) }
-    ensures back { IfErr result (λ s. (R.seen rack.new).attached
-        ≡ (R.seen rack.old).attached + handed_count s.disks.items s.swap) }
+        + member_count (bare_disks (attached_seen R.D.seen r.placed.attached).disks)
+        (attached_seen R.D.seen r.placed.attached).swap) }
+    ensures back { IfErr result (λ s. (R.seen rack.new).attached ≡ (R.seen rack.old).attached
+        + member_count (map R.D.seen s.disks.items) (option_map R.D.seen s.swap)) }
     // Where it is ready, or memory lacked, none counted a fault.
     ensures served { IfOk result (λ _. NoneFailed
         (outside_of (S.seen script.old) (S.seen script.new)
@@ -199,9 +201,10 @@ fn ready_plan<K: Sink, R: Rack>(
         → HasCase g o R.D.seen s) }
     // Each disk that the rack attached is there, or is handed back.
     ensures kept { IfOk result (λ r. (R.seen rack.new).attached ≡ (R.seen rack.old).attached
-        + handed_count r.placed.attached.disks.items r.placed.attached.swap) }
-    ensures back { IfErr result (λ s. (R.seen rack.new).attached
-        ≡ (R.seen rack.old).attached + handed_count s.disks.items s.swap) }
+        + member_count (bare_disks (attached_seen R.D.seen r.placed.attached).disks)
+        (attached_seen R.D.seen r.placed.attached).swap) }
+    ensures back { IfErr result (λ s. (R.seen rack.new).attached ≡ (R.seen rack.old).attached
+        + member_count (map R.D.seen s.disks.items) (option_map R.D.seen s.swap)) }
     // Where it is ready, or memory lacked, none counted a fault.
     ensures served { IfOk result (λ _.
         ((R.seen rack.new).faults ≡ (R.seen rack.old).faults)

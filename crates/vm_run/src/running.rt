@@ -5,7 +5,7 @@ ghost use Rattle.vm_run.specs.Asked.{Given, Asked, given_of};
 ghost use Rattle.volume_files.specs.Attached.{HasRooms, attached_seen, bare_disks};
 ghost use Rattle.vm_run.specs.Course.{HasCase, IsReady};
 ghost use Rattle.volume_files.specs.Opened.{OpenedFile};
-ghost use Rattle.volume_files.specs.Handed.{AreUncounted, handed_count};
+ghost use Rattle.volume_files.specs.Handed.{AreUncounted, member_count};
 ghost use Rattle.vm_run.specs.Ended.{end_of};
 ghost use Rattle.vm_run.specs.Run.{IsComplete, NoneFailed, Outside, RunEnds, outside_of};
 ghost use Rattle.vm_run.specs.declared.ending.Ending.TheVariants.{Memory};
@@ -66,8 +66,8 @@ fn course<T: Threads + Wait + Sync, S: Source, K: Sink, R: Rack>(
     ensures hides { result.ending ≡ Memory → NoneFailed
         (outside_of (S.seen script.old) (S.seen script.new)
         (R.seen rack.old) (R.seen rack.new) (K.seen out.old) (K.seen out.new)) }
-    ensures back { (R.seen rack.new).attached
-        ≡ (R.seen rack.old).attached + handed_count result.disks.items result.swap }
+    ensures back { (R.seen rack.new).attached ≡ (R.seen rack.old).attached
+        + member_count (map R.D.seen result.disks.items) (option_map R.D.seen result.swap) }
     ensures sink { (K.seen out.old).faults ≤ (K.seen out.new).faults }
 {
     match make_ready(alloc, words, script, out, rack) {
@@ -97,8 +97,9 @@ fn run_ready<T: Threads + Wait + Sync, D: Disk + Send, K: Sink>(
         → HasCase g o D.seen result }
     // Want of memory hides no failure.
     ensures hides { result.ending ≡ Memory → (K.seen out.new).faults ≡ (K.seen out.old).faults }
-    ensures count { handed_count result.disks.items result.swap
-        ≡ handed_count ready.placed.attached.disks.items ready.placed.attached.swap }
+    ensures count { member_count (map D.seen result.disks.items) (option_map D.seen result.swap)
+        ≡ member_count (bare_disks (attached_seen D.seen ready.placed.attached).disks)
+        (attached_seen D.seen ready.placed.attached).swap }
     ensures sink { (K.seen out.old).faults ≤ (K.seen out.new).faults }
 {
     let Ready {

@@ -78,10 +78,10 @@ pub element_there : {X : Type 0} (f : X → ℕ × DiskSeen) (xs : List X) (i : 
 element_there f xs i x low is = slice_get-map f xs i ∙ ap (option_map f) (slice_get-get_or xs i x low ∙ ap (λ y. Some y) (sym is))
 
 pub reads_still : (d : DiskSeen) → OnlyReads d d
-reads_still d = record { content = refl; size = refl; faults = omega arith }
+reads_still d = record { content = refl; size = refl; kind = refl; faults = omega arith }
 
 reads_through : (a b c : DiskSeen) → OnlyReads a b → OnlyReads b c → OnlyReads a c
-reads_through a b c first second = record { content = second.content ∙ first.content; size = second.size ∙ first.size; faults = omega (arith, first.faults, second.faults) }
+reads_through a b c first second = record { content = second.content ∙ first.content; size = second.size ∙ first.size; kind = second.kind ∙ first.kind; faults = omega (arith, first.faults, second.faults) }
 
 reads_from : (old new : List (ℕ × DiskSeen)) → Each OnlyReads old new → AreOnlyRead old new
 reads_from old new all = record { count = all.count; numbers = all.numbers; each = all.each }

@@ -19,7 +19,7 @@ use Rattle.volume_files.proofs.ShownLines.{lines_from, lines_whole, lines_kept, 
 use Rattle.volume_files.proofs.WrittenTexts.{wrote_nothing, wrote_then, part_then, front_more, part_more, wrote_front, risen_since}
 
 pub looks_same : (d : ℕ × DiskSeen) → LooksAt d d
-looks_same d = record { number = refl; reads = record { content = refl; size = refl; faults = omega arith } }
+looks_same d = record { number = refl; reads = record { content = refl; size = refl; kind = refl; faults = omega arith } }
 
 pub looks_then : (d0 d1 d2 : ℕ × DiskSeen) → LooksAt d0 d1 → LooksAt d1 d2 → LooksAt d0 d2
 looks_then d0 d1 d2 first second = record {
@@ -27,6 +27,7 @@ looks_then d0 d1 d2 first second = record {
   reads = record {
     content = second.reads.content ∙ first.reads.content;
     size = second.reads.size ∙ first.reads.size;
+    kind = second.reads.kind ∙ first.reads.kind;
     faults = omega (arith, first.reads.faults, second.reads.faults);
   };
 }

@@ -19,11 +19,12 @@ use Rattle.volume_files.specs.DiskTables.{SaysItsTable, IsOneTableStop, TablesSo
 use Rattle.volume_files.proofs.EachDisk.{Each, each_same, each_put, each_then, one_at, put_here, put_other, was_before}
 
 pub keeps_same : (d : DiskSeen) → KeepsBlocks d d
-keeps_same d = record { size = refl; faults = omega arith; untold = λ none. none; told = λ blocks is. (blocks, is, refl, λ b other. refl) }
+keeps_same d = record { size = refl; kind = refl; faults = omega arith; untold = λ none. none; told = λ blocks is. (blocks, is, refl, λ b other. refl) }
 
 pub keeps_then : (a b c : DiskSeen) → KeepsBlocks a b → KeepsBlocks b c → KeepsBlocks a c
 keeps_then a b c first second = record {
   size = second.size ∙ first.size;
+  kind = second.kind ∙ first.kind;
   faults = omega (arith, first.faults, second.faults);
   untold = λ none. second.untold (first.untold none);
   told = λ blocks is.
@@ -33,9 +34,10 @@ keeps_then a b c first second = record {
 }
 
 -- block 0 has other bytes
-pub keeps_with : (old new : DiskSeen) (bytes : List ℕ) → new.content ≡ with_block old.content 0 bytes → new.size ≡ old.size → old.faults ≤ new.faults → KeepsBlocks old new
-keeps_with old new bytes is size faults = record {
+pub keeps_with : (old new : DiskSeen) (bytes : List ℕ) → new.content ≡ with_block old.content 0 bytes → new.size ≡ old.size → new.kind ≡ old.kind → old.faults ≤ new.faults → KeepsBlocks old new
+keeps_with old new bytes is size kind faults = record {
   size = size;
+  kind = kind;
   faults = faults;
   untold = λ none. is ∙ ap (λ (o : Option (List (List ℕ))). with_block o 0 bytes) none;
   told = λ blocks some. (

@@ -101,7 +101,7 @@ pub none-pushed : {X : Type 0} (f : X → ℕ × DiskSeen) (xs ys : List X) (x :
 none-pushed f xs ys x is fresh none = subst (λ (zs : List _). NoneCounted (map f zs)) (sym is) (none-push f xs x fresh none)
 
 -- disks as they are handed back
-bare-handed : {D : Type 0} (seen : D → DiskSeen) (xs : List (NumberedDisk D)) → map seen (map (λ (d : NumberedDisk D). d.disk) xs) ≡ bare_disks (map (numbered_seen seen) xs)
+pub bare-handed : {D : Type 0} (seen : D → DiskSeen) (xs : List (NumberedDisk D)) → map seen (map (λ (d : NumberedDisk D). d.disk) xs) ≡ bare_disks (map (numbered_seen seen) xs)
 bare-handed seen [] = refl
 bare-handed seen (x ∷ xs) = ap (λ (l : List DiskSeen). seen x.disk ∷ l) (bare-handed seen xs)
 

@@ -17,10 +17,10 @@ use Rattle.volume_files.specs.Placing.{with_file_pages, with_given, bytes_given,
 
 module _ {D : Type 0} (seen : D → DiskSeen) where
   pub remains-same : (d : NumberedDisk D) → RemainsThere seen d d
-  remains-same d = record { number = refl; size = refl; later = omega arith; untold = λ none. none }
+  remains-same d = record { number = refl; size = refl; kind = refl; later = omega arith; untold = λ none. none }
 
   pub remains-then : (a b c : NumberedDisk D) → RemainsThere seen a b → RemainsThere seen b c → RemainsThere seen a c
-  remains-then a b c p q = record { number = q.number ∙ p.number; size = q.size ∙ p.size; later = omega (arith, p.later, q.later); untold = λ none. q.untold (p.untold none) }
+  remains-then a b c p q = record { number = q.number ∙ p.number; size = q.size ∙ p.size; kind = q.kind ∙ p.kind; later = omega (arith, p.later, q.later); untold = λ none. q.untold (p.untold none) }
 
   pub remain-same : (ds : List (NumberedDisk D)) → RemainThere seen ds ds
   remain-same ds = record { count = refl; each = λ i d h. remains-same (slice_index_or ds i d) }

@@ -1,10 +1,11 @@
 -- The disks that are handed back, by number, and why setting up ended. Public clauses cite this.
 use Rattle.std.specs.Prelude.{ℕ, ◌≡◌, ◌≤◌, ◌<◌, ◌==◌, ◌⊎◌, Bool, nat_le, nat_lt, count_by, List, [], length, map, take, Option, Some, None, Err, IfSome, IsSome}
-use Rattle.std.specs.Prelude.{IsSomeAnd, MatchOption, MatchBool, All, zip, slice_get, slice_index_or, option_map, if◌then◌else◌, ◌+◌, is_some}
-use Rattle.std.specs.List.{Contains}
+use Rattle.std.specs.Prelude.{IsSomeAnd, MatchOption, MatchBool, All, zip, slice_get, slice_index_or, option_map, if◌then◌else◌, ◌+◌}
+use Rattle.std.specs.List.{Contains, sum_by}
 use Rattle.std.specs.Map.{lookup}
+use Rattle.std.specs.Option.{option_map_or}
 use Rattle.block_device.specs.Counts.{HasRisen}
-use Rattle.block_device.specs.DiskSeen.{DiskSeen, failures_told}
+use Rattle.block_device.specs.DiskSeen.{DiskKind, DiskSeen, failures_told}
 use Rattle.block_device.specs.OpenSeen.{OpenFaultSeen}
 use Rattle.block_device.specs.RackSeen.{IsAttached, spec_number}
 use Rattle.block_device.specs.declared.rack.Spec.{Spec}
@@ -58,12 +59,20 @@ HasSpecSize (spec.Path number path) disk = Unit {0}
 abbrev pub HaveSpecSizes : List Spec → List DiskSeen → Type 0
 HaveSpecSizes specs disks = (length disks ≡ length specs) × ((i : ℕ) (s : Spec) (d : DiskSeen) → slice_get specs i ≡ Some s → slice_get disks i ≡ Some d → HasSpecSize s d)
 
--- How many disks these are, the swap disk among them.
-abbrev pub swap_count : {B : Type 0} → Option B → ℕ
-swap_count swap = if is_some swap then 1 else 0
+-- What kinds of disks these are.
+abbrev pub kinds_of : List (ℕ × DiskSeen) → List DiskKind
+kinds_of disks = map (λ (d : ℕ × DiskSeen). d.1.kind) disks
 
-abbrev pub handed_count : {A B : Type 0} → List A → Option B → ℕ
-handed_count disks swap = length disks + swap_count swap
+-- How many disks these are: of a disk that stands for several, each counts.
+abbrev pub members_of : List DiskSeen → ℕ
+members_of disks = sum_by (λ (d : DiskSeen). d.kind.members) disks
+
+abbrev pub swap_members : Option DiskSeen → ℕ
+swap_members swap = option_map_or (λ (d : DiskSeen). d.kind.members) swap 0
+
+-- How many disks these are, and the swap disk.
+abbrev pub member_count : List DiskSeen → Option DiskSeen → ℕ
+member_count disks swap = members_of disks + swap_members swap
 
 -- There is a swap disk exactly where there are slots, with one block for each.
 abbrev pub IsSwapFor : ℕ → Option DiskSeen → Type 0

@@ -131,10 +131,11 @@ abbrev pub with_file_pages : ℕ → Option (List (List ℕ)) → List OpenedFil
 with_file_pages number content [] = content
 with_file_pages number content (f ∷ files) = with_file_pages number (with_file number content f.info f.bytes) files
 
--- A disk keeps its number and its size, its count of faults doesn't fall, and where it didn't tell it doesn't.
+-- A disk keeps its number, its size and its kind, its count of faults doesn't fall, and where it didn't tell it doesn't.
 pub record RemainsThere {D : Type 0} (seen : D → DiskSeen) (old new : NumberedDisk D) : Type 0 where
   pub number : new.number ≡ old.number
   pub size : (seen new.disk).size ≡ (seen old.disk).size
+  pub kind : (seen new.disk).kind ≡ (seen old.disk).kind
   pub later : (seen old.disk).faults ≤ (seen new.disk).faults
   pub untold : (seen old.disk).content ≡ None → (seen new.disk).content ≡ None
 

@@ -59,9 +59,10 @@ HaveFirstBlocks disks = (i : ℕ) (d : ℕ × DiskSeen) → slice_get disks i �
 abbrev pub HaveExtents : List FileInfo → Type 0
 HaveExtents infos = (k : ℕ) → k < length infos → 1 ≤ length (info_at infos k).extents
 
--- A disk has its size, and its count of faults didn't fall; but for block 0 it has what it had.
+-- A disk has its size and its kind, and its count of faults didn't fall; but for block 0 it has what it had.
 pub record KeepsBlocks (old new : DiskSeen) : Type 0 where
   pub size : new.size ≡ old.size
+  pub kind : new.kind ≡ old.kind
   pub faults : old.faults ≤ new.faults
   pub untold : old.content ≡ None → new.content ≡ None
   pub told : (blocks : List (List ℕ)) → old.content ≡ Some blocks
@@ -77,6 +78,7 @@ pub record WriteTables (old new : List (ℕ × DiskSeen)) : Type 0 where
 pub record OnlyReads (old new : DiskSeen) : Type 0 where
   pub content : new.content ≡ old.content
   pub size : new.size ≡ old.size
+  pub kind : new.kind ≡ old.kind
   pub faults : old.faults ≤ new.faults
 
 pub record AreOnlyRead (old new : List (ℕ × DiskSeen)) : Type 0 where

@@ -2,7 +2,7 @@
 ghost use Rattle.std.specs.Prelude.{◌≡◌, ◌≤◌, ◌<◌, ◌+◌, [], map, option_map, length, None, IfOk, IfErr, IfSome, OnErr, vec_capacity};
 ghost use Rattle.vm_report.specs.vm_script.Rules.{amounts_of, broken_rule};
 ghost use Rattle.volume_files.specs.Attached.{AreAttached, HasRooms, StopsEarly, attached_seen, bare_disks};
-ghost use Rattle.volume_files.specs.Handed.{AreUncounted, IsSwapAsGiven, IsSwapFor, handed_count, swap_count};
+ghost use Rattle.volume_files.specs.Handed.{AreUncounted, IsSwapAsGiven, IsSwapFor, member_count, swap_members};
 ghost use Rattle.volume_files.specs.Mounting.{HoldSame, UngivenCause};
 ghost use Rattle.volume_files.specs.Unfailed.{UnlessFailed};
 
@@ -53,7 +53,8 @@ fn attach_swap<R: Rack>(slots: u32, rack: &mut R) -> Result<Option<Unopened<R::D
     ensures slots { IfErr result (λ _. 0 < slots) }
     // The rack counts the disk.
     ensures counted { IfOk result (λ swap. (R.seen rack.new).attached
-        ≡ (R.seen rack.old).attached + swap_count swap) }
+        ≡ (R.seen rack.old).attached
+        + swap_members (option_map (λ d. R.D.seen d.disk) swap)) }
     ensures uncounted { OnErr result ((R.seen rack.new).attached ≡ (R.seen rack.old).attached) }
     ensures same { HoldSame (R.seen rack.new).holds (R.seen rack.old).holds }
     ensures later { (R.seen rack.old).faults ≤ (R.seen rack.new).faults }
@@ -107,8 +108,9 @@ pub(crate) fn hand_back<D: Disk>(why: OpenStop, attached: Attached<D>) -> Handed
     ensures why { result.why ≡ why }
     ensures disks { result.disks.items ≡ map (λ d. d.disk) attached.disks.items }
     ensures swap { result.swap ≡ option_map (λ d. d.disk) attached.swap }
-    ensures count { handed_count result.disks.items result.swap
-        ≡ handed_count attached.disks.items attached.swap }
+    ensures count { member_count (map D.seen result.disks.items) (option_map D.seen result.swap)
+        ≡ member_count (bare_disks (attached_seen D.seen attached).disks)
+        (attached_seen D.seen attached).swap }
 {
     HandedBack {
         why,
@@ -136,10 +138,11 @@ fn attach_within<R: Rack>(
     ensures err { IfErr result (StopsEarly plan.now (R.seen rack.old).holds
         (R.seen rack.old).faults (R.seen rack.new).faults R.D.seen) }
     // Each disk that the rack attached is there, or is handed back.
-    ensures kept { IfOk result (λ a. (R.seen rack.new).attached
-        ≡ (R.seen rack.old).attached + handed_count a.disks.items a.swap) }
-    ensures back { IfErr result (λ s. (R.seen rack.new).attached
-        ≡ (R.seen rack.old).attached + handed_count s.disks.items s.swap) }
+    ensures kept { IfOk result (λ a. (R.seen rack.new).attached ≡ (R.seen rack.old).attached
+        + member_count (bare_disks (attached_seen R.D.seen a).disks)
+        (attached_seen R.D.seen a).swap) }
+    ensures back { IfErr result (λ s. (R.seen rack.new).attached ≡ (R.seen rack.old).attached
+        + member_count (map R.D.seen s.disks.items) (option_map R.D.seen s.swap)) }
     ensures later { (R.seen rack.old).faults ≤ (R.seen rack.new).faults }
     // Unless the rack or a disk failed, none counted a fault.
     ensures steady { IfOk result (λ _. (R.seen rack.new).faults ≡ (R.seen rack.old).faults) }
@@ -185,10 +188,11 @@ pub fn attach<R: Rack>(
     ensures err { IfErr result (StopsEarly plan.now (R.seen rack.old).holds
         (R.seen rack.old).faults (R.seen rack.new).faults R.D.seen) }
     // Each disk that the rack attached is there, or is handed back.
-    ensures kept { IfOk result (λ a. (R.seen rack.new).attached
-        ≡ (R.seen rack.old).attached + handed_count a.disks.items a.swap) }
-    ensures back { IfErr result (λ s. (R.seen rack.new).attached
-        ≡ (R.seen rack.old).attached + handed_count s.disks.items s.swap) }
+    ensures kept { IfOk result (λ a. (R.seen rack.new).attached ≡ (R.seen rack.old).attached
+        + member_count (bare_disks (attached_seen R.D.seen a).disks)
+        (attached_seen R.D.seen a).swap) }
+    ensures back { IfErr result (λ s. (R.seen rack.new).attached ≡ (R.seen rack.old).attached
+        + member_count (map R.D.seen s.disks.items) (option_map R.D.seen s.swap)) }
     ensures later { (R.seen rack.old).faults ≤ (R.seen rack.new).faults }
     // Unless the rack or a disk failed, none counted a fault.
     ensures steady { IfOk result (λ _. (R.seen rack.new).faults ≡ (R.seen rack.old).faults) }

@@ -2,7 +2,8 @@
 ghost use Rattle.std.specs.Prelude.{◌≡◌, ◌≢◌, ◌<◌, ◌≤◌, ◌+◌, [], length, map, None, Ok, if◌then◌else◌, IfOk, IfErr, OnOk, vec_len, vec_capacity};
 ghost use Rattle.block_device.specs.DiskSeen.{failures_told};
 ghost use Rattle.block_device.specs.RackSeen.{KeepsOthers, spec_number};
-ghost use Rattle.volume_files.specs.Attached.{AreMounted, numbered_seen};
+ghost use Rattle.volume_files.specs.Attached.{AreMounted, bare_disks, numbered_seen};
+ghost use Rattle.volume_files.specs.Handed.{members_of};
 ghost use Rattle.volume_files.specs.Mounting.{Holds, HoldSame, SaysTableRead, BadTableCause, UnreadCause, MountsOne, MountsNumber, HaltsNumber, HaltsSpec, Halts};
 ghost use Rattle.block_device.specs.declared.rack.Spec.{Spec};
 ghost use Rattle.volume_format.specs.Rules.{reading};
@@ -121,8 +122,10 @@ fn mount<R: Rack>(
         (NoneCounted (map (numbered_seen R.D.seen) disks.old.items)
         → NoneCounted (map (numbered_seen R.D.seen) disks.new.items)) }
     // Each disk that the rack attached is in the list.
-    ensures count { (R.seen rack.new).attached + vec_len disks.old
-        ≡ (R.seen rack.old).attached + vec_len disks.new }
+    ensures count { (R.seen rack.new).attached
+        + members_of (bare_disks (map (numbered_seen R.D.seen) disks.old.items))
+        ≡ (R.seen rack.old).attached
+        + members_of (bare_disks (map (numbered_seen R.D.seen) disks.new.items)) }
     // Room for one disk is taken.
     ensures disks { vec_len disks.new ≤ vec_len disks.old + 1 }
     ensures tables { vec_len tables.new ≤ vec_len tables.old + 1 }
@@ -175,8 +178,10 @@ fn mount_numbered<R: Rack>(
         (NoneCounted (map (numbered_seen R.D.seen) disks.old.items)
         → NoneCounted (map (numbered_seen R.D.seen) disks.new.items)) }
     // Each disk that the rack attached is in the list.
-    ensures count { (R.seen rack.new).attached + vec_len disks.old
-        ≡ (R.seen rack.old).attached + vec_len disks.new }
+    ensures count { (R.seen rack.new).attached
+        + members_of (bare_disks (map (numbered_seen R.D.seen) disks.old.items))
+        ≡ (R.seen rack.old).attached
+        + members_of (bare_disks (map (numbered_seen R.D.seen) disks.new.items)) }
     // Room for one disk is taken.
     ensures disks { vec_len disks.new ≤ vec_len disks.old + 1 }
     ensures tables { vec_len tables.new ≤ vec_len tables.old + 1 }
@@ -218,7 +223,8 @@ pub fn mount_all<R: Rack>(
         ((R.seen rack.new).faults ≡ (R.seen rack.old).faults) }
     ensures uncounted { UnlessFailed result
         (NoneCounted (map (numbered_seen R.D.seen) disks.new.items)) }
-    ensures count { (R.seen rack.new).attached ≡ (R.seen rack.old).attached + vec_len disks.new }
+    ensures count { (R.seen rack.new).attached ≡ (R.seen rack.old).attached
+        + members_of (bare_disks (map (numbered_seen R.D.seen) disks.new.items)) }
     ensures few { vec_len disks.new ≤ 8 }
 {
     for number in 0..8 {

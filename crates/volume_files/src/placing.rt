@@ -6,7 +6,7 @@ ghost use Rattle.vm_report.specs.vm_script.Rules.{broken_rule};
 ghost use Rattle.vm_report.specs.vm_script.Sound.{IsSoundSetup};
 ghost use Rattle.volume_format.specs.vnode_files.Vnode.{IsSoundVnode};
 ghost use Rattle.volume_files.specs.Attached.{AreAttached, AreMounted, ArePlaced, HasRooms, StopsEarly, attached_seen, bare_disks, numbered_seen};
-ghost use Rattle.volume_files.specs.Handed.{AreUncounted, handed_count};
+ghost use Rattle.volume_files.specs.Handed.{AreUncounted, member_count};
 ghost use Rattle.volume_files.specs.Opened.{OpenedFile, numbered_plan};
 ghost use Rattle.volume_files.specs.Placing.{Distinct, IsPlaceable, PlaceStopped, PlacesFiles, RemainThere, attached_numbers, found_files, open_stop_of, names_made, placing_read};
 ghost use Rattle.volume_files.specs.Unfailed.{counts_of};
@@ -146,8 +146,11 @@ pub fn place<D: Disk>(
         × ArePlaced plan.old holds files (attached_seen D.seen p.attached) p.files
         × (plan.new ≡ numbered_plan files plan.old)) }
     ensures rooms { IfOk result (λ p. HasRooms p.attached) }
-    ensures kept { IfOk result (λ p. handed_count p.attached.disks.items p.attached.swap
-        ≡ handed_count attached.disks.items attached.swap) }
+    ensures kept { IfOk result (λ p.
+        member_count (bare_disks (attached_seen D.seen p.attached).disks)
+        (attached_seen D.seen p.attached).swap
+        ≡ member_count (bare_disks (attached_seen D.seen attached).disks)
+        (attached_seen D.seen attached).swap) }
     ensures rules { IfOk result (λ _. broken_rule plan.new ≡ None) }
 
     // Unless a disk failed, none counted a fault.
@@ -164,8 +167,10 @@ pub fn place<D: Disk>(
     ensures err { (holds : Spec → Option (List (List ℕ))) (count : ℕ)
         → AreAttached plan.old holds (attached_seen D.seen attached)
         → IfErr result (StopsEarly plan.old holds count count D.seen) }
-    ensures back { IfErr result (λ s. handed_count s.disks.items s.swap
-        ≡ handed_count attached.disks.items attached.swap) }
+    ensures back { IfErr result (λ s.
+        member_count (map D.seen s.disks.items) (option_map D.seen s.swap)
+        ≡ member_count (bare_disks (attached_seen D.seen attached).disks)
+        (attached_seen D.seen attached).swap) }
 {
     let mut attached = attached;
     match number_files(alloc, plan, &attached.tables, &mut attached.disks) {

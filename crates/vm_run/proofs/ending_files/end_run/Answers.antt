@@ -1,7 +1,10 @@
-use Rattle.std.proofs.Common.{◌∙◌, ℕ, List, ap, length, map}
-use Rattle.std.proofs.lemmas.List.{length-map}
+use Rattle.std.proofs.Common.{◌∙◌, ap, arith, map}
+use Rattle.std.specs.Prelude.{option_map}
 use Rattle.vm_core.specs.page_store.Bays.{pairs_seen}
 use Rattle.volume_files.proofs.DiskLists.{seen-bare_disks}
+use Rattle.volume_files.specs.Handed.{members_of, swap_members}
+use Rattle.volume_files.proofs.DiskCounts.{members-kinds}
+use Rattle.vm_run.proofs.Endings.{close-kinds}
 use Rattle.vm_run.proofs.ending_files.end_run.Goals as goal
 
 pub returns-clause-ends : goal.returns-clause-ends
@@ -14,4 +17,10 @@ returns-clause-ends g c =
 
 pub returns-clause-count : goal.returns-clause-count
 returns-clause-count g c =
-    ap (λ (l : List _). length l) c.without_numbers.ensures ∙ length-map c.close-ending.new.finished.disks.items (λ (d : ℕ × _). d.1) ∙ c.close-ending.ensures.count
+    let seen = g.D.Disk.seen in
+    let old = c.args.played.finished.disks.items in
+    let new = c.close-ending.new.finished.disks.items in
+    let back = ap members_of (ap (map seen) c.without_numbers.ensures ∙ seen-bare_disks seen new) in
+    let disks = members-kinds (pairs_seen seen new) (pairs_seen seen old) (close-kinds _ _ _ _ _ _ _ _ (pairs_seen seen old) (pairs_seen seen new) _ c.close-ending.ensures.ends) in
+    let swap = ap (λ w. swap_members (option_map seen w)) c.close-ending.ensures.swap in
+    omega (arith, back, disks, swap)

@@ -1,9 +1,6 @@
-use Rattle.std.proofs.Common.{rules, ◌≡◌, ◌+◌, ◌∙◌, ℕ, ap, refl, subst, sym}
-use Rattle.std.specs.Prelude.{length}
-use Rattle.volume_files.specs.Attached.{numbered_seen}
-use Rattle.std.proofs.lemmas.List.{length-map}
-use Rattle.volume_files.specs.Handed.{handed_count}
-use Rattle.volume_files.proofs.DiskCounts.{count-as}
+use Rattle.std.proofs.Common.{rules, ◌+◌, ◌∙◌, ℕ, ap, refl, subst, sym}
+use Rattle.std.specs.Prelude.{map, option_map}
+use Rattle.volume_files.proofs.DiskCounts.{count-as, count-read}
 use Rattle.volume_files.specs.Attached.{ArePlaced, StopsEarly, attached_seen}
 use Rattle.vm_run.proofs.EarlyEnds.{never-risen, risen-outside, stopped-early}
 use Rattle.vm_run.proofs.RunReady.{is-ready, numbered-playable, placed-as}
@@ -80,34 +77,30 @@ returns-in-Err-traced-clause-err g c = λ given o is asked before after sink0 si
 
 pub returns-in-Err-clause-back : goal.returns-in-Err-clause-back
 returns-in-Err-clause-back g c =
+    let seen = g.R.D.Disk.seen in
     let u = c.stop_unopened.ensures in
     c.in-Err.ensures.back
-    ∙ ap (λ (n : ℕ). (g.R.Rack.seen c.args.rack.now).attached + n)
-    (sym (count-as c.stop_unopened.result.disks.items c.in-Err.back.disks.items c.stop_unopened.result.swap c.in-Err.back.swap (ap (λ v. length v.items) u.disks) u.swap))
+    ∙ ap (λ (n : ℕ). (g.R.Rack.seen c.args.rack.now).attached + n) (sym (count-as (λ v. map seen v.items) (option_map seen) _ _ _ _ u.disks u.swap))
 
 pub returns-in-Err-place-clause-back : goal.returns-in-Err-place-clause-back
 returns-in-Err-place-clause-back g c =
+    let seen = g.R.D.Disk.seen in
     let u = c.stop_unopened-in-Err-place.ensures in
-    let back = c.in-Err-place.back in
-    let same = count-as c.stop_unopened-in-Err-place.result.disks.items back.disks.items c.stop_unopened-in-Err-place.result.swap back.swap (ap (λ v. length v.items) u.disks) u.swap in
+    let same = count-as (λ v. map seen v.items) (option_map seen) _ _ _ _ u.disks u.swap in
     c.in-Ok.ensures.kept ∙ ap (λ (n : ℕ). (g.R.Rack.seen c.args.rack.now).attached + n) (sym (same ∙ c.in-Err-place.ensures.back))
 
 pub returns-in-Ok-traced-clause-kept : goal.returns-in-Ok-traced-clause-kept
 returns-in-Ok-traced-clause-kept g c =
     let old = c.in-Ok-place.placed.attached in
     let new = c.traced.new.placed.attached in
-    let seen = numbered_seen g.R.D.Disk.seen in
-    let long : length new.disks.items ≡ length old.disks.items = sym (length-map new.disks.items seen) ∙ c.in-Ok-traced.ensures.disks.count ∙ length-map old.disks.items seen in
-    let same : handed_count new.disks.items new.swap ≡ handed_count old.disks.items old.swap = count-as new.disks.items old.disks.items new.swap old.swap long c.in-Ok-traced.ensures.swap in
+    let same = count-read g.R.D.Disk.seen old.disks.items new.disks.items old.swap new.swap c.in-Ok-traced.ensures.disks c.in-Ok-traced.ensures.swap in
     c.in-Ok.ensures.kept ∙ ap (λ (n : ℕ). (g.R.Rack.seen c.args.rack.now).attached + n) (sym (same ∙ c.in-Ok-place.ensures.kept))
 
 pub returns-in-Err-traced-clause-back : goal.returns-in-Err-traced-clause-back
 returns-in-Err-traced-clause-back g c =
     let old = c.in-Ok-place.placed.attached in
     let new = c.traced.new.placed.attached in
-    let seen = numbered_seen g.R.D.Disk.seen in
-    let long : length new.disks.items ≡ length old.disks.items = sym (length-map new.disks.items seen) ∙ c.in-Err-traced.ensures.disks.count ∙ length-map old.disks.items seen in
-    let same : handed_count new.disks.items new.swap ≡ handed_count old.disks.items old.swap = count-as new.disks.items old.disks.items new.swap old.swap long c.in-Err-traced.ensures.swap in
+    let same = count-read g.R.D.Disk.seen old.disks.items new.disks.items old.swap new.swap c.in-Err-traced.ensures.disks c.in-Err-traced.ensures.swap in
     c.in-Ok.ensures.kept ∙ ap (λ (n : ℕ). (g.R.Rack.seen c.args.rack.now).attached + n) (sym (c.stop_untraced.ensures.count ∙ same ∙ c.in-Ok-place.ensures.kept))
 
 pub returns-in-Ok-traced-clause-uncounted : goal.returns-in-Ok-traced-clause-uncounted

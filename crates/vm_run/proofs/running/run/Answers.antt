@@ -1,7 +1,7 @@
-use Rattle.std.proofs.Common.{◌+◌, ◌∙◌, ℕ, ap, length, map, refl, sym}
+use Rattle.std.proofs.Common.{◌+◌, ◌∙◌, ℕ, ap, map, sym}
 use Rattle.std.specs.Prelude.{option_map, string_bytes}
 use Rattle.vm_run.specs.Asked.{given_of}
-use Rattle.volume_files.proofs.DiskCounts.{count-as, count-made}
+use Rattle.volume_files.proofs.DiskCounts.{count-as}
 use Rattle.vm_run.proofs.LastLines.{ends-so}
 use Rattle.vm_run.proofs.Completes.{completes}
 use Rattle.vm_run.proofs.running.run.Goals as goal
@@ -18,9 +18,8 @@ returns-clause-ends g c =
     (g.K.Sink.seen c.args.out.now) (g.K.Sink.seen c.course-stop.new.out) (g.K.Sink.seen c.conclude.new.out) c.course-stop.ensures.sink c.conclude.ensures.later stop.history out.history
     (map seen stop.disks.items) (map seen out.disks.items) (option_map seen stop.swap) (option_map seen out.swap) c.conclude.ensures.history (ap (λ d. map seen d.items) c.conclude.ensures.disks)
     (ap (option_map seen) c.conclude.ensures.swap) stop.ending how.0 out.status out.fault c.course-stop.ensures.ends c.course-stop.ensures.hides how.1 how.2 how.3
-    (c.course-stop.ensures.back ∙ ap (λ (n : ℕ). (g.R.Rack.seen c.args.rack.now).attached + n) (sym (
-    count-made seen seen (map seen out.disks.items) out.disks.items (option_map seen out.swap) out.swap refl refl
-    ∙ count-as out.disks.items stop.disks.items out.swap stop.swap (ap (λ d. length d.items) c.conclude.ensures.disks) c.conclude.ensures.swap)))
+    (c.course-stop.ensures.back ∙ ap (λ (n : ℕ). (g.R.Rack.seen c.args.rack.now).attached + n)
+    (sym (count-as (λ v. map seen v.items) (option_map seen) out.disks stop.disks out.swap stop.swap c.conclude.ensures.disks c.conclude.ensures.swap)))
 
 pub returns-clause-complete : goal.returns-clause-complete
 returns-clause-complete g c = completes _ _ _ (returns-clause-ends g c)

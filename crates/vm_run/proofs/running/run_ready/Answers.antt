@@ -6,11 +6,9 @@ use Rattle.volume_files.specs.Attached.{attached_seen}
 use Rattle.volume_files.specs.Opened.{opening_flat}
 use Rattle.vm_run.specs.Played.{IsStarted, KernelLeaves, left_seen}
 use Rattle.volume_files.specs.Written.{disk_sizes}
-use Rattle.volume_files.specs.vm_script.Rules.{amounts_of}
-use Rattle.volume_files.specs.Handed.{IsSwapFor}
-use Rattle.volume_files.specs.block_device.declared.numbered.NumberedDisk.{NumberedDisk}
-use Rattle.volume_files.proofs.DiskCounts.{count-as, count-handed, count-served}
-use Rattle.vm_run.proofs.Returned.{swap-serves-still}
+use Rattle.volume_files.specs.Handed.{kinds_of, members_of, swap_members}
+use Rattle.volume_files.proofs.DiskCounts.{members-kinds}
+use Rattle.vm_run.proofs.Returned.{swap-still}
 use Rattle.vm_run.proofs.RunReady.{first-left, names-left, placed-as, ready-ends, start-lacks}
 use Rattle.vm_run.proofs.running.run_ready.Given as Given
 use Rattle.vm_run.proofs.running.run_ready.Goals as goal
@@ -108,21 +106,17 @@ pub returns-in-Ok-clause-count : goal.returns-in-Ok-clause-count
 returns-in-Ok-clause-count g c =
     let q = c.requires.ready in
     let seen = g.D.Disk.seen in
-    let at = c.args.ready.placed.attached in
-    let a = attached_seen seen at in
-    let placed = placed-as c.args.ready.plan q.2.plan q.0.holds q.3 a c.args.ready.placed.files q.5.numbered q.5.placed in
-    let started = c.in-Ok.ensures.ok q.0.holds q.3 placed in
+    let a = attached_seen seen c.args.ready.placed.attached in
+    let started = c.in-Ok.ensures.ok q.0.holds q.3 (placed-as c.args.ready.plan q.2.plan q.0.holds q.3 a c.args.ready.placed.files q.5.numbered q.5.placed) in
     let left = c.play-played.ensures.left _ _ _ _ started in
     let done = c.play-played.result.finished in
-    let count = left.disks.count ∙ ap length started.racked in
-    let new : length (pairs_seen seen done.disks.items) ≡ length done.disks.items = length-map done.disks.items _ in
-    let old : length a.disks ≡ length at.disks.items = length-map at.disks.items _ in
-    let long : length done.disks.items ≡ length at.disks.items = omega (arith, count, new, old) in
-    let swaps : IsSwapFor (amounts_of c.args.ready.plan.setup).slots (option_map seen done.swap) = swap-serves-still _ a.swap _ _ (left_seen seen done) started.swapped left placed.handed.first in
-    count-as c.end_run.result.disks.items done.disks.items c.end_run.result.swap done.swap c.end_run.ensures.count c.end_run.ensures.swap
-    ∙ count-served seen (λ (d : NumberedDisk _). seen d.disk) done.disks.items at.disks.items (amounts_of c.args.ready.plan.setup).slots done.swap at.swap long swaps placed.handed.first
+    let disks = members-kinds (pairs_seen seen done.disks.items) a.disks (left.disks.kinds ∙ ap kinds_of started.racked) in
+    let swap = swap-still a.swap _ _ (left_seen seen done) started.swapped left in
+    let count = c.end_run.ensures.count in
+    omega (arith, count, disks, swap)
 
 pub returns-clause-count : goal.returns-clause-count
 returns-clause-count g c =
-    let at = c.args.ready.placed.attached in
-    count-handed g.D.Disk.seen c.in-Err.stop.disks.items at.disks.items c.in-Err.stop.swap at.swap c.in-Err.ensures.same.0 c.in-Err.ensures.same.1
+    let disks = ap members_of c.in-Err.ensures.same.0 in
+    let swap = ap swap_members c.in-Err.ensures.same.1 in
+    omega (arith, disks, swap)

@@ -2,7 +2,8 @@ use Rattle.std.proofs.Common.{◌≡◌, ◌≤◌, ◌+◌, map}
 use Rattle.std.specs.Prelude.{vec_len, vec_capacity}
 use Rattle.block_device.specs.RackSeen.{spec_number}
 use Rattle.block_device.specs.declared.rack.Spec.{Spec}
-use Rattle.volume_files.specs.Attached.{AreMounted, numbered_seen}
+use Rattle.volume_files.specs.Attached.{AreMounted, bare_disks, numbered_seen}
+use Rattle.volume_files.specs.Handed.{members_of}
 use Rattle.volume_files.specs.Mounting.{Holds, HoldSame, specs_below}
 use Rattle.volume_files.specs.Unfailed.{NoneCounted}
 use Rattle.volume_files.proofs.mounting.mount_all.Given as goal
@@ -15,7 +16,7 @@ invariant-loop-number g l = record {
   later : (g.R.Rack.seen l.fn.rack).faults ≤ (g.R.Rack.seen l.rack).faults;
   steady : (g.R.Rack.seen l.rack).faults ≡ (g.R.Rack.seen l.fn.rack).faults;
   uncounted : NoneCounted (map (numbered_seen g.R.D.Disk.seen) l.disks.items);
-  count : (g.R.Rack.seen l.rack).attached ≡ (g.R.Rack.seen l.fn.rack).attached + vec_len l.disks;
+  count : (g.R.Rack.seen l.rack).attached ≡ (g.R.Rack.seen l.fn.rack).attached + members_of (bare_disks (map (numbered_seen g.R.D.Disk.seen) l.disks.items));
   few_disks : vec_len l.disks ≤ l.number;
   few_tables : vec_len l.tables ≤ l.number;
   disks_room : 8 ≤ vec_capacity l.disks;

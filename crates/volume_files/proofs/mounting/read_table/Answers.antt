@@ -11,7 +11,7 @@ returns-in-Ok-clause-ok g c =
     let old = g.D.Disk.seen c.args.disk.now.disk in
     let r = c.read.ensures.reads in
     says_read old (g.D.Disk.seen c.read.new.self.disk) c.read.new.into c.blocks-blocks.result (g.met.D.Disk.has_blocks c.args.disk.now.disk)
-    (record { content = r.content; size = r.size; faults = r.cause.later }) c.blocks-blocks.ensures
+    (record { content = r.content; size = r.size; kind = r.kind; faults = r.cause.later }) c.blocks-blocks.ensures
     (subst (λ x. OnOk x (Shows old.content 0 c.read.new.into)) c.in-Ok.is r.gives) c.if-blocks-lt2.false c.if-blocks-gt16384.false c.table_in_block.result c.table_in_block.ensures.ok
 
 pub returns-then-blocks-lt2-clause-err : goal.returns-then-blocks-lt2-clause-err

@@ -1,17 +1,18 @@
 use Rattle.std.specs.Prelude.{ℕ, ◌≡◌, List, length, map, option_map, None}
-use Rattle.std.proofs.Common.{arith, refl, sym, ap, ◌∙◌, subst}
+use Rattle.std.proofs.Common.{Vec, arith, refl, sym, ap, ◌∙◌, subst}
 use Rattle.std.specs.Vec.{with_items}
+use Rattle.block_device.specs.DiskSeen.{DiskSeen}
 use Rattle.block_device.specs.declared.numbered.NumberedDisk.{NumberedDisk}
 use Rattle.volume_format.specs.Table.{TableSeen}
 use Rattle.vm_report.specs.vm_script.PlanSeen.{PlanSeen}
 use Rattle.vm_report.specs.vm_script.Rules.{broken_rule}
 use Rattle.vm_report.specs.vm_script.FileNames.{with_files}
 use Rattle.volume_files.specs.Attached.{AreMounted, ArePlaced, bare_disks, numbered_seen}
-use Rattle.volume_files.specs.Handed.{AreUncounted}
+use Rattle.volume_files.specs.Handed.{AreUncounted, members_of}
 use Rattle.volume_files.specs.Unfailed.{counts_of}
 use Rattle.volume_files.specs.Opened.{disk_specs}
-use Rattle.volume_files.specs.Placing.{Distinct, PlaceStopped, PlacesFiles, attached_numbers, found_files, names_made, placing_read}
-use Rattle.volume_files.proofs.DiskCounts.{count-as}
+use Rattle.volume_files.specs.Placing.{Distinct, PlaceStopped, PlacesFiles, RemainThere, attached_numbers, found_files, names_made, placing_read}
+use Rattle.volume_files.proofs.DiskCounts.{members-remain}
 use Rattle.volume_files.proofs.AllPlaced.{distinct-attached, placed-all}
 use Rattle.volume_files.proofs.FileLineLemmas.{names-opened}
 use Rattle.volume_files.proofs.FoundLemmas.{all-blocks}
@@ -104,22 +105,22 @@ returns-in-Err-clause-err g c = λ holds count a.
     stops-early seen plan holds old new ts c.args.attached.swap count c.in-Err.how c.hand_back.result (c.hand_back.ensures.why ∙ c.open_stop.ensures)
     (c.hand_back.ensures.disks ∙ ap (map (λ (d : NumberedDisk _). d.disk)) written) c.hand_back.ensures.swap (all-blocks seen old (λ d. g.met.D.Disk.has_blocks d.disk)) m a.swap a.blank remain stopped
 
+-- as many disks as were attached
+still : {D Z : Type 0} (seen : D → DiskSeen) (v : Vec (NumberedDisk D) Z) (old new : List (NumberedDisk D)) → old ≡ v.items → RemainThere seen old new
+    → members_of (bare_disks (map (numbered_seen seen) (with_items v new).items)) ≡ members_of (bare_disks (map (numbered_seen seen) v.items))
+still {D} seen v old new was remain =
+    let f : List (NumberedDisk D) → ℕ = λ ds. members_of (bare_disks (map (numbered_seen seen) ds)) in
+    ap f (items-written v new (remain.count ∙ ap (λ (ds : List (NumberedDisk D)). length ds) was)) ∙ members-remain seen old new remain ∙ ap f was
+
 pub returns-in-Ok-clause-kept : goal.returns-in-Ok-clause-kept
 returns-in-Ok-clause-kept g c =
-    let count : length c.number_files.new.disks ≡ length c.args.attached.disks.items =
-    c.number_files.ensures.remain.count ∙ ap (λ (ds : List (NumberedDisk _)). length ds) c.deref_mut.ensures.value in
-    let same : length (with_items c.args.attached.disks c.number_files.new.disks).items ≡ length c.number_files.new.disks =
-    ap (λ (ds : List (NumberedDisk _)). length ds) (items-written c.args.attached.disks c.number_files.new.disks count) in
-    count-as (with_items c.args.attached.disks c.number_files.new.disks).items c.args.attached.disks.items c.args.attached.swap c.args.attached.swap (same ∙ count) refl
+    let same = still g.D.Disk.seen c.args.attached.disks c.deref_mut.result.now c.number_files.new.disks c.deref_mut.ensures.value c.number_files.ensures.remain in
+    omega (arith, same)
 
 pub returns-in-Err-clause-back : goal.returns-in-Err-clause-back
 returns-in-Err-clause-back g c =
-    let count : length c.number_files.new.disks ≡ length c.args.attached.disks.items =
-    c.number_files.ensures.remain.count ∙ ap (λ (ds : List (NumberedDisk _)). length ds) c.deref_mut.ensures.value in
-    let same : length (with_items c.args.attached.disks c.number_files.new.disks).items ≡ length c.number_files.new.disks =
-    ap (λ (ds : List (NumberedDisk _)). length ds) (items-written c.args.attached.disks c.number_files.new.disks count) in
-    c.hand_back.ensures.count
-    ∙ count-as (with_items c.args.attached.disks c.number_files.new.disks).items c.args.attached.disks.items c.args.attached.swap c.args.attached.swap (same ∙ count) refl
+    let same = still g.D.Disk.seen c.args.attached.disks c.deref_mut.result.now c.number_files.new.disks c.deref_mut.ensures.value c.number_files.ensures.remain in
+    c.hand_back.ensures.count ∙ omega (arith, same)
 
 pub returns-in-Ok-clause-uncounted : goal.returns-in-Ok-clause-uncounted
 returns-in-Ok-clause-uncounted g c = λ none.
