@@ -89,6 +89,17 @@ bears-nobody call plain q p cleared r = either (is_done r)
 pub access-own : (call : Call) → ((a : ℕ) × (n : ℕ) × (call ≡ Load a n)) ⊎ ((a : ℕ) × (n : ℕ) × (v : ℕ) × (call ≡ Store a n v)) → IsOnOwnSpace call
 access-own call is = elim is [ inl x ↦ subst IsOnOwnSpace (sym x.2) tt | inr x ↦ subst IsOnOwnSpace (sym x.3) tt ]
 
+pub no-access : (call : Call) → ((a n : ℕ) → call ≢ Load a n) → ((a n v : ℕ) → call ≢ Store a n v) → ¬ IsAccess call
+no-access (Load a n) load store h = load a n refl
+no-access (Store a n v) load store h = store a n v refl
+no-access call load store h = h
+
+pub not-load : (call : Call) → IsWellFormed call → ¬ IsAccess call → (a n : ℕ) → call ≢ Load a n
+not-load call formed other a n is = other (subst IsAccess (sym is) (subst IsWellFormed is formed))
+
+pub not-store : (call : Call) → IsWellFormed call → ¬ IsAccess call → (a n v : ℕ) → call ≢ Store a n v
+not-store call formed other a n v is = other (subst IsAccess (sym is) (subst IsWellFormed is formed))
+
 -- What is none, no Fork and no call on a file concerns mappings, which are on it too; and where it is neither the exit nor a Sync, it changes those of a process that goes on.
 pub concerns-mappings : (call : Call) → ((a n : ℕ) → call ≢ Load a n) → ((a n v : ℕ) → call ≢ Store a n v) → ((child : ℕ) → call ≢ Fork child) → ((file offset len : ℕ) → call ≢ Read file offset len)
     → ((file offset : ℕ) (line : List ℕ) (rest : ℕ) → call ≢ Write file offset line rest) → ((file len : ℕ) → call ≢ Truncate file len) → ConcernsMappings call

@@ -33,6 +33,7 @@ impl<D: Disk> VmState<D> {
     /// `Done` adds its entry to the history. `Need` is a transfer that is needed first; `begin` begins it. `Busy` says whom the call
     /// waits for. The error is want of memory, and comes at a call that changes mappings or a Fork alone. A load or a store whose page has
     /// its translation takes constant expected time and no memory; none makes a disk call.
+    #[inline(always)]
     pub fn try_call(&mut self, seat: u32, process: u32, call: &Call) -> Result<Attempt, AllocError>
         requires fits { FitsAt self.old seat None }
         requires formed { IsWellFormed call.now }
@@ -58,6 +59,32 @@ impl<D: Disk> VmState<D> {
             let answer = self.access(process, call);
             return Ok(self.settle(seat, process, call, answer));
         }
+        self.try_other(seat, process, call)
+    }
+
+    // Tries a call that is neither a load nor a store. Not inline, so that a hit's code has no room for its values.
+    #[inline(never)]
+    fn try_other(&mut self, seat: u32, process: u32, call: &Call) -> Result<Attempt, AllocError>
+        requires other { ¬ IsAccess call.now }
+        requires fits { FitsAt self.old seat None }
+        requires formed { IsWellFormed call.now }
+        requires may { CanTry self.old seat process call.now }
+        ensures answers { IfOk result (λ attempt. AnswersCall self.old self.new seat process
+            call.now attempt) }
+        ensures waits { IfOk result (λ attempt. (t : ℕ)
+            → IsAnothers self.old.calls seat call.now t → attempt ≡ Busy (File t)) }
+        // The mechanisms are real.
+        ensures shown { IfOk result (λ attempt. IsShownAfterCall self.new.memory process
+            call.now attempt) }
+        ensures slots { IfOk result (λ attempt. SlotsAfterCall self.old.memory
+            self.new.memory.world process call.now attempt) }
+        ensures hit { IfOk result (λ attempt. IsHitAfterCall self.old.memory
+            self.new.memory.world process call.now attempt) }
+        ensures event { IsEvent seat self.old None self.new None }
+        // Want of memory comes at a call that changes mappings or a Fork alone, and nothing changed then.
+        ensures memory { OnErr result (TakesMemory call.now) }
+        ensures err { OnErr result (self.new ≡ self.old) }
+    {
         if let Call::Fork { child } = *call {
             return self.fork(seat, process, child, call);
         }
@@ -71,6 +98,7 @@ impl<D: Disk> VmState<D> {
 
     // A load or a store is concluded with what is answered to it. A hit has arms of its own: its attempt is known there, so that none
     // is moved but into the entry and the result.
+    #[inline(always)]
     fn settle(&mut self, seat: u32, process: u32, call: &Call, answer: Answer) -> Attempt
         requires room { length (entries_of self.old.history process)
             < room_of self.old.entries process }
@@ -154,6 +182,7 @@ impl<D: Disk> VmState<D> {
     }
 
     // What is answered to a load or a store.
+    #[inline(always)]
     fn access(&mut self, process: u32, call: &Call) -> Answer
         requires access { IsAccess call.now }
         requires alive { IsSome (finite.get self.old.memory.spaces process) }
