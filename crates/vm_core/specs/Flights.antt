@@ -10,7 +10,10 @@ use Rattle.fault_entry.specs.page_store.Steps.{next_frame}
 use Rattle.fault_entry.specs.page_store.declared.plan.Plan.{Plan}
 use Rattle.fault_entry.specs.page_store.declared.plan.Plan.TheVariants as plan
 use Rattle.fault_entry.specs.page_store.Seen.{StoreSeen}
+use Rattle.fault_entry.specs.anon_slots.Slots.{AnonSlotsSeen}
+use Rattle.fault_entry.specs.vnode_files.Files.{FilesSeen}
 use Rattle.fault_entry.specs.seg_ops.Flights.{places_pushed, store_synced}
+use Rattle.fault_entry.specs.seg_ops.Marks.{files_pushed, slots_pushed}
 use Rattle.fault_entry.specs.vm_world.EntryLaws.{LocksAfter, StartsAfter}
 use Rattle.fault_entry.specs.vm_world.State.{KernelState, KeptPlan, Sent, Caller}
 use Rattle.fault_entry.specs.vm_world.Wants.{IsDirtyPage, MayReadIn}
@@ -27,10 +30,25 @@ abbrev pub places_begun : World → Plan → List (Option Translation)
 places_begun w (plan.Read name) = w.hat.places
 places_begun w (plan.Push name) = places_pushed (next_frame w.store) (find w.store.names name) w.hat.places
 
+-- The files and the slots once a transfer began.
+abbrev pub files_begun : World → Plan → FilesSeen
+files_begun w (plan.Read name) = w.files
+files_begun w (plan.Push name) = files_pushed w.files name
+
+abbrev pub slots_begun : World → Plan → AnonSlotsSeen
+slots_begun w (plan.Read name) = w.anon
+slots_begun w (plan.Push name) = slots_pushed w.anon name
+
 -- The store as a transfer leaves it: a page that is pushed has its translations' bits then.
 abbrev pub store_ready : World → Plan → StoreSeen
 store_ready w (plan.Read name) = w.store
 store_ready w (plan.Push name) = store_synced w name
+
+-- The maps stay; and so do the files and the slots, but that a page which is pushed counts as pushed from then on.
+pub record KeepsButPushed (old new : World) (plan : Plan) : Type 0 where
+  pub maps : new.maps ≡ old.maps
+  pub files : new.files ≡ files_begun old plan
+  pub anon : new.anon ≡ slots_begun old plan
 
 -- The plan is the one that is kept, for this seat.
 pub record IsKeptFor (s : KernelState) (seat : ℕ) (p : Plan) (kept : KeptPlan) : Type 0 where

@@ -16,7 +16,7 @@ ghost use Rattle.fault_entry.specs.vm_world.Words.{Fits, IsFit};
 ghost use Rattle.fault_entry.specs.vm_world.World.{world_seen, world_table};
 ghost use Rattle.fault_entry.specs.vm_world.WorldSteps.{WorldStep, leaves};
 ghost use Rattle.vm_core.specs.Fits.{FitsAt};
-ghost use Rattle.vm_core.specs.Flights.{CanLeave, IsKeptFor, places_begun, sent_with, store_ready};
+ghost use Rattle.vm_core.specs.Flights.{CanLeave, IsKeptFor, KeepsButPushed, places_begun, sent_with, store_ready};
 
 use crate::state::VmState;
 use fault_entry::{Disk, Flight, Plan, World, begin_push, begin_read};
@@ -36,6 +36,7 @@ fn leave<D: Disk>(world: &mut World<D>, seat: u32, plan: Plan) -> Flight<D>
     ensures begins { BeginsTransfer (store_ready (world_seen world.old) plan) world.new.store
         plan (plan_page plan) result }
     // What stays.
+    ensures tables { KeepsButPushed (world_seen world.old) (world_seen world.new) plan }
     ensures zeros { world.new.zeros ≡ world.old.zeros }
     ensures step { (spaces : Spaces) (notes : Notes) → Fits world.old spaces
         → NotesFit (world_seen world.old) notes
@@ -68,6 +69,8 @@ impl<D: Disk> VmState<D> {
         // What the store does: no other disk moves, and where each page is then.
         ensures begins { BeginsTransfer (store_ready self.old.memory.world plan)
             self.new.memory.world.store plan (plan_page plan) result }
+        // The maps, the files and the slots stay, but that a page which is pushed counts so.
+        ensures tables { KeepsButPushed self.old.memory.world self.new.memory.world plan }
         // What stays: all but the world. No plan is kept.
         ensures rest { self.new ≡ after_step self.old self.new.memory.world self.new.pending }
     {
