@@ -1,22 +1,16 @@
 -- A block may make each of its lines.
-use Rattle.std.proofs.Common.{◌≡◌, ℕ, zero, suc, ◌+◌, ◌≤◌, ◌==◌, ◌||◌, Bool, true, false, List, [], ◌∷◌, ◌++◌, length, Option, Some, None, refl, sym, ap, ◌∙◌, subst, cond, length-append, append-nil, arith, inl, ⊎_elim}
+use Rattle.std.proofs.Common.{◌≡◌, ℕ, zero, suc, ◌+◌, ◌≤◌, ◌==◌, ◌||◌, Bool, true, false, List, [], ◌∷◌, ◌++◌, length, Some, refl, sym, ap, ◌∙◌, subst, length-append, append-nil, arith}
 use Rattle.std.specs.Prelude.{IsTrue, IsFalse}
 use Rattle.std.specs.Option.{option_map_or}
-use Rattle.std.specs.List.{list_any, AllByRecursion}
-use Rattle.std.proofs.lemmas.Bool.{cases_Bool}
+use Rattle.std.specs.List.{list_any}
 use Rattle.std.proofs.lemmas.List.Elements.{filter-append}
 use Rattle.std.proofs.lemmas.List.Folds.{list_any-append}
 use Rattle.std.proofs.lemmas.List.Sums.{sum_by-append, sum_by-cons}
 use mathlib.Core.List.{IsPrefix}
-use Rattle.vm_script.specs.vm_types.declared.call.Call.{Call}
-use Rattle.vm_script.specs.vm_types.declared.call.Call.TheVariants as call
 use Rattle.vm_script.specs.vm_types.declared.call.Entry.{Entry}
-use Rattle.vm_script.specs.vm_types.Parts.{ends_call}
-use Rattle.vm_script.specs.flat_model.Told.{entries_of, Spells}
+use Rattle.vm_script.specs.flat_model.Told.{entries_of}
 use Rattle.vm_script.specs.flat_model.Births.{is_birth}
-use Rattle.vm_script.specs.flat_model.OpenLaws.{last_entry, MayFollow, FollowsOn}
 use Rattle.vm_script.specs.declared.plan.PlanAct.{PlanAct}
-use Rattle.vm_script.specs.declared.plan.PlanAct.TheVariants as act
 use Rattle.vm_script.specs.declared.plan.PlanLine.{PlanLine}
 use Rattle.vm_script.specs.Told.{parent_of}
 use Rattle.vm_script.specs.Counts.{parts, entry_count}
@@ -24,7 +18,7 @@ use Rattle.vm_core.specs.vm_world.HistoryFits.{has_left, is_exit_of}
 use Rattle.vm_core.specs.vm_world.SeatLaws.{IsKnownAlive}
 use Rattle.vm_core.specs.vm_world.State.{process_parent, is_top, room_of}
 use Rattle.vm_kernel.specs.Callers.{KernelSeen, CallerSeen}
-use Rattle.block_runs.specs.Callers.{tree, rooms, IsCaller, SeesMore}
+use Rattle.block_runs.specs.Callers.{tree, rooms, SeesMore}
 use Rattle.block_runs.specs.Conditions.{IsFitAct, AreFit, EndsLast, MayMakeLines, MayGo, MayMakeLine}
 use Rattle.block_runs.specs.Lines.{own_of}
 use Rattle.block_runs.proofs.Lists.{each_front, each_back, any_longer}

@@ -6,6 +6,7 @@ pub mod Runs
 pub mod Goings
 pub mod Spelled
 pub mod KernelCalls
+pub mod Parting
 pub mod LineCalls
 pub mod Stretching
 pub mod Joining

@@ -1,32 +1,38 @@
 -- The calls of lines.
-use Rattle.std.proofs.Common.{◌≡◌, ℕ, ◌+◌, ◌≤◌, ◌<◌, List, [], ◌∷◌, length, Some, None, sym, ap, ◌∙◌, subst, refl, arith}
+use Rattle.std.proofs.Common.{◌≡◌, ℕ, ◌+◌, ◌≤◌, ◌<◌, ◌^◌, ◌∙◌, List, [], ◌∷◌, ◌++◌, length, refl, sym, ap, subst, inl, arith, append-nil, ◌⊎◌, inr, None}
+use Rattle.std.specs.Prelude.{drop, Result, Ok, Err, OnOk}
+use Rattle.std.proofs.lemmas.List.{length-take}
 use Rattle.vm_script.specs.vm_types.declared.call.Call.{Call}
 use Rattle.vm_script.specs.vm_types.declared.call.Call.TheVariants as call
-use Rattle.vm_script.specs.vm_types.declared.call.Reply.{Reply}
 use Rattle.vm_script.specs.vm_types.declared.call.Entry.{Entry}
-use Rattle.vm_script.specs.vm_types.Parts.{part_file, first_write}
-use Rattle.vm_script.specs.flat_model.Told.{SpelledLine, entries_of}
+use Rattle.vm_script.specs.vm_types.declared.call.Reply.{Reply}
+use Rattle.vm_script.specs.vm_types.Pages.{line_rest}
+use Rattle.vm_script.specs.vm_types.Parts.{first_write, part_bytes, part_file, HasRest}
+use Rattle.vm_script.specs.flat_model.Told.{SpelledLine, SpellsAll, entries_of}
 use Rattle.vm_script.specs.Blocks.{IsInner}
 use Rattle.vm_script.specs.Counts.{parts, call_parts}
+use Rattle.vm_script.specs.Sound.{IsOfNoFile}
 use Rattle.vm_script.specs.Told.{calls_of}
 use Rattle.vm_script.specs.declared.plan.PlanAct.{PlanAct}
 use Rattle.vm_script.specs.declared.plan.PlanAct.TheVariants as act
 use Rattle.vm_script.specs.declared.plan.PlanLine.{PlanLine}
-use Rattle.vm_core.specs.vm_world.SeatLaws.{IsNewChild}
 use Rattle.vm_kernel.specs.Callers.{KernelSeen, CallerSeen}
 use Rattle.vm_kernel.specs.Turns.{MayCall}
-use Rattle.block_runs.specs.Callers.{tree, rooms, IsCaller, HasMade}
+use Rattle.block_runs.specs.Callers.{rooms, IsCaller, HasMade}
 use Rattle.block_runs.specs.Conditions.{IsFitCall, IsFitAct, MayMakeLine}
 use Rattle.block_runs.specs.Lines.{IsCallLine}
+use Rattle.block_runs.specs.Parts.{FillsLine, MakesParts, MayMakeParts}
 use Rattle.block_runs.specs.Rows.{MakesLine}
-use Rattle.block_runs.proofs.KernelCalls.{may_call}
-use Rattle.block_runs.proofs.Runs.{one_made}
+use Rattle.block_runs.proofs.Parting.{PartsMade, count_first, fills_first, parts_start, part_may, parts_end}
+use Rattle.block_runs.proofs.Runs.{no_next}
 
--- the call of a line is fit, and no fork
-record OneCall (a : PlanAct) (c : Call) : Type 0 where
-  fit : IsFitCall (record { call = c; bytes = [] })
-  line : IsCallLine (act.Call c)
-  some : 1 ≤ parts a
+-- The call of a line, with its bytes that are still to come, is fit, and no fork; and it makes no more entries than the line may.
+pub record OneCall (a : PlanAct) (s : SpelledLine) : Type 0 where
+  pub is : calls_of a ≡ s ∷ []
+  pub fit : IsFitCall s
+  pub fills : FillsLine s.call
+  pub line : IsCallLine (act.Call s.call)
+  pub few : call_parts s.call ≤ parts a
 
 inner_line : (c : Call) → IsInner (act.Call c) → IsCallLine (act.Call c)
 inner_line (call.Load a n) inner = tt
@@ -41,51 +47,105 @@ inner_line (call.Truncate file len) inner = tt
 inner_line (call.Fork child) inner = absurd inner
 inner_line call.Exit inner = absurd inner
 
-one_part : (c : Call) → part_file c ≡ None → 1 ≤ call_parts c
-one_part (call.Load a n) none = omega arith
-one_part (call.Store a n v) none = omega arith
-one_part (call.Map at len prot kind object offset) none = omega arith
-one_part (call.Unmap a len) none = omega arith
-one_part (call.Protect a len prot) none = omega arith
-one_part (call.Sync a len) none = omega arith
-one_part (call.Read file offset len) none = absurd (cc none)
-one_part (call.Write file offset bytes more) none = absurd (cc none)
-one_part (call.Truncate file len) none = omega arith
-one_part (call.Fork child) none = omega arith
-one_part call.Exit none = omega arith
+-- a call with no bytes to come
+fills_none : (c : Call) → HasRest c [] → FillsLine c
+fills_none (call.Write file offset line rest) none = inl (sym none)
+fills_none (call.Read file offset len) none = tt
+fills_none (call.Load a n) none = tt
+fills_none (call.Store a n v) none = tt
+fills_none (call.Map at len prot kind object offset) none = tt
+fills_none (call.Unmap a len) none = tt
+fills_none (call.Protect a len prot) none = tt
+fills_none (call.Sync a len) none = tt
+fills_none (call.Truncate file len) none = tt
+fills_none (call.Fork child) none = tt
+fills_none call.Exit none = tt
 
-new_child : (parents : List ℕ) (own : List Entry) (p : ℕ) (c : Call) → IsCallLine (act.Call c) → IsNewChild parents own p c
-new_child parents own p (call.Load a n) line = tt
-new_child parents own p (call.Store a n v) line = tt
-new_child parents own p (call.Map at len prot kind object offset) line = tt
-new_child parents own p (call.Unmap a len) line = tt
-new_child parents own p (call.Protect a len prot) line = tt
-new_child parents own p (call.Sync a len) line = tt
-new_child parents own p (call.Read file offset len) line = tt
-new_child parents own p (call.Write file offset bytes more) line = tt
-new_child parents own p (call.Truncate file len) line = tt
-new_child parents own p (call.Fork child) line = absurd line
-new_child parents own p call.Exit line = tt
+plain_call : (c : Call) → IsCallLine (act.Call c) → IsFitAct (act.Call c) → OneCall (act.Call c) (record { call = c; bytes = [] })
+plain_call c line fit = record { is = refl; fit = fit.0; fills = fills_none c fit.0.rest; line = line; few = omega arith }
 
-first_call : (c d : Call) → ◌≡◌ {A = List SpelledLine} (record { call = d; bytes = [] } ∷ []) (record { call = c; bytes = [] } ∷ []) → d ≡ c
-first_call c d is = let same : ◌≡◌ {A = SpelledLine} (record { call = d; bytes = [] }) (record { call = c; bytes = [] }) = cc is in ap (λ (s : SpelledLine). s.call) same
+named_call : (name : List ℕ) (c : Call) → IsFitAct (act.Named name c) → OneCall (act.Named name c) (record { call = c; bytes = [] })
+named_call name c fit = record { is = refl; fit = fit.0; fills = fills_none c fit.0.rest; line = inner_line c fit.1; few = omega arith }
 
-not_write : (file offset : ℕ) (bytes : List ℕ) → part_file (first_write file offset bytes) ≡ None → ⊥
-not_write file offset bytes none = cc none
+written_call : (name : List ℕ) (file offset : ℕ) (bytes : List ℕ) → IsFitAct (act.Write name file offset bytes)
+    → OneCall (act.Write name file offset bytes) (record { call = first_write file offset bytes; bytes = drop (length (part_bytes (first_write file offset bytes))) bytes })
+written_call name file offset bytes fit = record { is = refl; fit = fit.0; fills = fills_first file offset bytes; line = tt; few = let count = count_first file offset bytes in omega (arith, count) }
 
-one_call : (a : PlanAct) (c : Call) → IsCallLine a → IsFitAct a → calls_of a ≡ record { call = c; bytes = [] } ∷ [] → OneCall a c
-one_call (act.Call d) c line fit is = subst (λ k. OneCall (act.Call d) k) (first_call c d is) (record { fit = fit.0; line = line; some = one_part d fit.0.one })
-one_call (act.Named name d) c line fit is = subst (λ k. OneCall (act.Named name d) k) (first_call c d is) (record { fit = fit.0; line = inner_line d fit.1; some = one_part d fit.0.one })
-one_call (act.Write name file offset bytes) c line fit is = absurd (not_write file offset bytes fit.0.one)
-one_call act.Wait c line fit is = absurd line
+pub one_call : (a : PlanAct) (c : Call) → (a ≡ act.Call c) ⊎ ((name : List ℕ) × (a ≡ act.Named name c)) → IsCallLine a → IsFitAct a → OneCall a (record { call = c; bytes = [] })
+one_call a c (inl is) line fit = subst (λ (x : PlanAct). OneCall x (record { call = c; bytes = [] })) (sym is) (plain_call c (subst IsCallLine is line) (subst IsFitAct is fit))
+one_call a c (inr is) line fit = subst (λ (x : PlanAct). OneCall x (record { call = c; bytes = [] })) (sym is.1) (named_call is.0 c (subst IsFitAct is.1 fit))
 
-module _ (kernel : KernelSeen) (v : CallerSeen) (l : PlanLine) (c : Call) (line : IsCallLine l.act) (may : MayMakeLine kernel v l) (is : calls_of l.act ≡ record { call = c; bytes = [] } ∷ []) where
-  pub line_may : IsCaller kernel v → MayCall kernel v c
-  line_may caller =
-      let one = one_call l.act c line may.fit is in
-      let some = one.some in
-      let room = may.room in
-      may_call kernel v c caller one.fit.formed may.alive (omega (arith, some, room)) may.ends (new_child (tree kernel) (entries_of v.seat.seen v.process) v.process c one.line)
+one_write : (a : PlanAct) (name : List ℕ) (file offset : ℕ) (bytes : List ℕ) → a ≡ act.Write name file offset bytes → IsFitAct a
+    → OneCall a (record { call = first_write file offset bytes; bytes = drop (length (part_bytes (first_write file offset bytes))) bytes })
+one_write a name file offset bytes is fit =
+    subst (λ (x : PlanAct). OneCall x (record { call = first_write file offset bytes; bytes = drop (length (part_bytes (first_write file offset bytes))) bytes })) (sym is) (written_call name file offset bytes (subst IsFitAct is fit))
 
-  pub line_made : (w : CallerSeen) (r : Reply) → HasMade v w c r → MakesLine v w l
-  line_made w r made = let one = one_call l.act c line may.fit is in one_made v w l c r is one.line one.fit.one made
+-- the same of a write that was cut into its first part and the bytes behind it
+pub one_cut : (a : PlanAct) (name : List ℕ) (file offset : ℕ) (bytes whole : List ℕ) (c : Call) (b : List ℕ) → a ≡ act.Write name file offset bytes → IsFitAct a → whole ≡ bytes
+    → c ≡ first_write file offset whole → b ≡ drop (length (part_bytes (first_write file offset whole))) whole → OneCall a (record { call = c; bytes = b })
+one_cut a name file offset bytes whole c b is fit same first behind =
+    subst (λ (x : Call). OneCall a (record { call = x; bytes = b })) (sym (first ∙ ap (first_write file offset) same))
+    (subst (λ (x : List ℕ). OneCall a (record { call = first_write file offset bytes; bytes = x })) (sym (behind ∙ ap (λ (xs : List ℕ). drop (length (part_bytes (first_write file offset xs))) xs) same))
+    (one_write a name file offset bytes is fit))
+
+pub write_sized : (a : PlanAct) (name : List ℕ) (file offset : ℕ) (bytes whole : List ℕ) → a ≡ act.Write name file offset bytes → IsFitAct a → whole ≡ bytes → (1 ≤ length whole) × (length whole < 2 ^ 32)
+write_sized a name file offset bytes whole is fit same =
+    let here = subst IsFitAct is fit in
+    let first = here.0.formed.2.some in
+    let taken = length-take (line_rest offset) bytes in
+    subst (λ (xs : List ℕ). (1 ≤ length xs) × (length xs < 2 ^ 32)) (sym same) (omega (arith, taken, first), here.1)
+
+-- a line that names no file makes one entry
+no_part : (c : Call) → IsOfNoFile c → part_file c ≡ None
+no_part (call.Load a n) none = refl
+no_part (call.Store a n v) none = refl
+no_part (call.Map at len prot kind object offset) none = refl
+no_part (call.Unmap a len) none = refl
+no_part (call.Protect a len prot) none = refl
+no_part (call.Sync a len) none = refl
+no_part (call.Read file offset len) none = absurd none
+no_part (call.Write file offset line rest) none = absurd none
+no_part (call.Truncate file len) none = absurd none
+no_part (call.Fork child) none = refl
+no_part call.Exit none = refl
+
+-- What a line makes that makes its call's parts, where memory doesn't lack.
+pub ok_made : {A E : Type 0} (P Q : Type 0) (r : Result A E) → (P → Q) → OnOk r P → OnOk r Q
+ok_made P Q (Ok a) f h = f h
+ok_made P Q (Err e) f h = h
+
+module _ (kernel : KernelSeen) (v : CallerSeen) (l : PlanLine) (s : SpelledLine) (one : OneCall l.act s) where
+  pub line_may : MayMakeLine kernel v l → MayMakeParts kernel v s.call s.bytes
+  line_may may = record {
+    formed = one.fit.formed;
+    rest = one.fit.rest;
+    fills = one.fills;
+    line = one.line;
+    alive = may.alive;
+    room = let few = one.few in let room = may.room in omega (arith, few, room);
+    ends = may.ends;
+  }
+
+  pub line_made : (w : CallerSeen) → MakesParts v w s.call s.bytes → MakesLine v w l
+  line_made w made = record {
+    es = made.es;
+    more = made.more;
+    own = subst (λ (ss : List SpelledLine). SpellsAll (ss ++ []) made.es) (sym one.is) (made.es, [], sym (append-nil made.es), made.own, refl);
+    bears = made.bears;
+  }
+
+-- a line that names no file
+module _ (kernel : KernelSeen) (v : CallerSeen) (l : PlanLine) (c : Call) (is : l.act ≡ act.Call c) (line : IsCallLine l.act) (caller : IsCaller kernel v) (may : MayMakeLine kernel v l) where
+  alone : OneCall l.act (record { call = c; bytes = [] })
+  alone = one_call l.act c (inl is) line may.fit
+
+  starts : PartsMade kernel v v c [] c []
+  starts = parts_start kernel v c [] caller (line_may kernel v l (record { call = c; bytes = [] }) alone may)
+
+  pub plain_may : MayCall kernel v c
+  plain_may = part_may kernel v v c [] c [] starts
+
+  pub plain_made : (w : CallerSeen) (r : Reply) → HasMade v w c r → MakesLine v w l
+  plain_made w r made =
+      line_made kernel v l (record { call = c; bytes = [] }) alone w
+      (parts_end kernel v v w c [] c [] r starts made (no_next c r [] (no_part c (subst IsFitAct is may.fit).1)))

@@ -9,7 +9,8 @@ use Rattle.vm_script.specs.declared.plan.PlanAct.TheVariants as act
 use Rattle.vm_script.specs.declared.plan.PlanLine.{PlanLine}
 use Rattle.vm_script.specs.Told.{parent_of}
 use Rattle.vm_script.specs.Blocks.{IsInner, IsProcessBlock, ends, goes_on, forks, AreProcessBlocks, over, block, IsWithin}
-use Rattle.vm_script.proofs.Ranges.{within}
+use Rattle.vm_script.proofs.Ranges.{outside_own as far_own, within}
+pub use Rattle.vm_script.proofs.Ranges.{not_own}
 use Rattle.block_runs.specs.Lines.{own_of, first_process, from_own, behind_end, is_end, one_if, ends_in, NextIs}
 use Rattle.block_runs.proofs.Lists.{same_front, same_parts}
 
@@ -69,21 +70,12 @@ from_behind p P [] ys all else = refl
 from_behind p P (x ∷ xs) ys all else =
     ap (λ b. cond b (x ∷ (xs ++ ys)) (from_own p (xs ++ ys))) (ne_eqb x.process p (else x (All-head P x xs all))) ∙ from_behind p P xs ys (All-tail P x xs all) else
 
-pub none_own : (p : ℕ) (P : PlanLine → Type 0) (lines : List PlanLine) → All P lines → ((l : PlanLine) → P l → l.process ≡ p → ⊥) → own_of p lines ≡ []
-none_own p P [] all else = refl
-none_own p P (x ∷ xs) all else = ap (λ b. cond b (x ∷ own_of p xs) (own_of p xs)) (ne_eqb x.process p (else x (All-head P x xs all))) ∙ none_own p P xs (All-tail P x xs all) else
-
-pub not_own : (p : ℕ) (l : PlanLine) (lines : List PlanLine) → (l.process ≡ p → ⊥) → own_of p (l ∷ lines) ≡ own_of p lines
-not_own p l lines else = ap (λ b. cond b (l ∷ own_of p lines) (own_of p lines)) (ne_eqb l.process p else)
-
 pub is_own : (p : ℕ) (l : PlanLine) (lines : List PlanLine) → l.process ≡ p → own_of p (l ∷ lines) ≡ l ∷ own_of p lines
 is_own p l lines is = ap (λ b. cond b (l ∷ own_of p lines) (own_of p lines)) (eq-eqb l.process p is)
 
 -- none of a block's lines is of a process outside
 pub outside_own : (parents : List ℕ) (q n m p : ℕ) (lines : List PlanLine) → IsProcessBlock parents q n lines m → (q ≡ p → ⊥) → (n ≤ p → p < m → ⊥) → own_of p lines ≡ []
-outside_own parents q n m p lines body else far =
-    none_own p (IsWithin q n m) lines (within parents q n m lines body).all
-    (λ l h is. ⊎_elim (λ own. else (sym own ∙ is)) (λ r. let a = r.0 in let b = r.1 in far (omega (arith, a, is)) (omega (arith, b, is))) h)
+outside_own parents q n m p lines body else far = far_own q n m p lines (within parents q n m lines body).all else far
 
 -- the parted lines are the child's and those behind them
 pub record Parted (child others xs ys : List PlanLine) : Type 0 where

@@ -18,10 +18,10 @@ use Rattle.vm_script.specs.PlanSeen.{PlanSeen}
 use Rattle.vm_script.specs.Told.{parent_of}
 use Rattle.vm_script.specs.Ended.{KeepsTree}
 use Rattle.vm_core.specs.vm_world.HistoryFits.{RoomsFit}
-use Rattle.vm_core.specs.vm_world.State.{KernelState, Sent, fixed_of, room_of, Fixed}
+use Rattle.vm_core.specs.vm_world.State.{KernelState, Sent, room_of, Fixed}
 use Rattle.vm_kernel.specs.Callers.{KernelSeen, CallerSeen, caller_part}
 use Rattle.vm_kernel.specs.Since.{seat_of_entry, history_of, IsSinceOpening}
-use Rattle.block_runs.specs.Callers.{tree, rooms, IsCaller}
+use Rattle.block_runs.specs.Callers.{tree, rooms}
 use Rattle.block_runs.specs.Rows.{AreNumbered}
 use Rattle.block_runs.specs.Closing.{IsKept, IsClosedRow}
 use Rattle.block_runs.proofs.KernelCalls.{own_shown, caller_own}

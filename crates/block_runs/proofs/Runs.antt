@@ -239,18 +239,3 @@ bears_none d e c is line =
     ⊎_elim (λ done. ap (λ b. b || false) (ap (λ b. cond b (is_fork_of d e.call) false) done ∙ (ap (is_fork_of d) is ∙ no_birth d c line)))
     (λ not. unborn d e not)
     (cases_Bool (is_done e.reply))
-
--- a line of one call was made
-pub one_made : (v w : CallerSeen) (l : PlanLine) (c : Call) (r : Reply) → calls_of l.act ≡ record { call = c; bytes = [] } ∷ [] → IsCallLine (act.Call c) → part_file c ≡ None → HasMade v w c r → MakesLine v w l
-one_made v w l c r is line none made = record {
-  es = made.entry ∷ [];
-  more = made.more;
-  own = subst (λ ss. SpellsAll (ss ++ []) (made.entry ∷ [])) (sym is) (
-    made.entry ∷ [],
-    [],
-    refl,
-    (made.is_call, subst (λ o. MatchOption o (◌≡◌ {A = List Entry} [] []) (λ (next : Call). Spells next (drop (length (part_bytes next)) []) [])) (sym (no_next c made.entry.reply [] none)) refl),
-    refl,
-  );
-  bears = λ d. bears_none d made.entry c made.is_call line;
-}

@@ -1,6 +1,6 @@
 -- What the entries that spell a line are.
 use Rattle.std.proofs.Common.{◌≡◌, ℕ, suc, ◌+◌, ◌==◌, ◌≤◌, ◌||◌, Bool, true, false, List, [], ◌∷◌, ◌++◌, length, Option, Some, None, refl, sym, ap, ◌∙◌, subst, cond, eq-eqb, append-nil, arith}
-use Rattle.std.specs.Prelude.{MatchOption, IsFalse, drop, min, take}
+use Rattle.std.specs.Prelude.{MatchOption, IsFalse, drop}
 use Rattle.std.specs.List.{list_any}
 use Rattle.std.proofs.lemmas.List.{length-take}
 use Rattle.vm_script.specs.vm_types.declared.call.Call.{Call}
@@ -9,17 +9,16 @@ use Rattle.vm_script.specs.vm_types.declared.call.Reply.{Reply}
 use Rattle.vm_script.specs.vm_types.declared.call.Reply.TheVariants as reply
 use Rattle.vm_script.specs.vm_types.declared.call.Entry.{Entry}
 use Rattle.vm_script.specs.vm_types.Pages.{line_rest}
-use Rattle.vm_script.specs.vm_types.Parts.{next_part, part_bytes, part_file, first_write, is_past_numbers, HasRest}
+use Rattle.vm_script.specs.vm_types.Parts.{next_part, part_bytes, first_write, is_past_numbers, HasRest}
 use Rattle.vm_script.specs.vm_types.WellFormed.{IsWellFormed}
 use Rattle.vm_script.specs.flat_model.Births.{is_birth}
 use Rattle.vm_script.specs.flat_model.Told.{SpelledLine, Spells, SpellsAll, entries_of}
 use Rattle.vm_script.specs.declared.plan.PlanAct.{PlanAct}
 use Rattle.vm_script.specs.declared.plan.PlanAct.TheVariants as act
-use Rattle.vm_script.specs.declared.plan.PlanLine.{PlanLine}
-use Rattle.vm_script.specs.Counts.{line_count, call_parts, parts}
+use Rattle.vm_script.specs.Counts.{call_parts, parts}
 use Rattle.vm_script.specs.Told.{calls_of}
 use Rattle.vm_core.specs.vm_world.HistoryFits.{is_exit, is_exit_of, has_left}
-use Rattle.block_runs.specs.Conditions.{IsFitCall, IsFitAct, EndsLast}
+use Rattle.block_runs.specs.Conditions.{IsFitAct, EndsLast}
 use Rattle.block_runs.specs.Lines.{IsCallLine, is_end}
 use Rattle.block_runs.proofs.Counting.{few_reads, few_writes, count_one, read_next, write_next, none_some}
 use Rattle.block_runs.proofs.Goings.{AreMade}

@@ -1,8 +1,8 @@
 -- When a block's caller may make its next line. Public clauses cite this.
-use Rattle.std.specs.Prelude.{ℕ, ◌≡◌, ◌+◌, ◌≤◌, List, [], ◌∷◌, length, MatchOption, IsTrue, IsFalse, None}
+use Rattle.std.specs.Prelude.{ℕ, ◌≡◌, ◌+◌, ◌≤◌, ◌<◌, ◌^◌, List, [], ◌∷◌, drop, length, MatchOption, IsTrue, IsFalse}
 use Rattle.std.specs.List.{list_any, AllByRecursion}
 use Rattle.vm_script.specs.vm_types.declared.call.Entry.{Entry}
-use Rattle.vm_script.specs.vm_types.Parts.{ends_call, part_file, HasRest}
+use Rattle.vm_script.specs.vm_types.Parts.{ends_call, first_write, part_bytes, HasRest}
 use Rattle.vm_script.specs.vm_types.WellFormed.{IsWellFormed}
 use Rattle.vm_script.specs.flat_model.Births.{is_birth}
 use Rattle.vm_script.specs.flat_model.OpenLaws.{last_entry}
@@ -12,23 +12,27 @@ use Rattle.vm_script.specs.declared.plan.PlanAct.{PlanAct}
 use Rattle.vm_script.specs.declared.plan.PlanAct.TheVariants as act
 use Rattle.vm_script.specs.declared.plan.PlanLine.{PlanLine}
 use Rattle.vm_script.specs.Counts.{parts, entry_count}
-use Rattle.vm_script.specs.Told.{calls_of}
+use Rattle.vm_script.specs.Sound.{IsOfNoFile}
 use Rattle.vm_core.specs.vm_world.SeatLaws.{IsKnownAlive}
 use Rattle.vm_core.specs.vm_world.State.{room_of}
 use Rattle.vm_kernel.specs.Callers.{KernelSeen, CallerSeen}
 use Rattle.block_runs.specs.Callers.{tree, rooms}
 use Rattle.block_runs.specs.Lines.{own_of}
 
--- A call is well formed, no part of a read or a write, and its bytes that are still to come are as many as its rest says.
+-- A call is well formed, and its bytes that are still to come are as many as its rest says.
 pub record IsFitCall (s : SpelledLine) : Type 0 where
   pub formed : IsWellFormed s.call
-  pub one : part_file s.call ≡ None
   pub rest : HasRest s.call s.bytes
 
--- The call of a line is fit; where the line names a file, it is neither a Fork nor an Exit.
+-- The call of a line is fit. Where the line names no file, it is of none; where it names one, it is neither a Fork nor an Exit; and what a write has is a
+-- number of bytes.
 abbrev pub IsFitAct : PlanAct → Type 0
+IsFitAct (act.Call c) = IsFitCall (record { call = c; bytes = [] }) × IsOfNoFile c
 IsFitAct (act.Named name c) = IsFitCall (record { call = c; bytes = [] }) × IsInner (act.Call c)
-IsFitAct a = AllByRecursion IsFitCall (calls_of a)
+IsFitAct (act.Write name file offset bytes) =
+    let first = first_write file offset bytes in
+    IsFitCall (record { call = first; bytes = drop (length (part_bytes first)) bytes }) × (length bytes < 2 ^ 32)
+IsFitAct act.Wait = Unit {0}
 
 -- LINES MAY BE MADE: no process has more of them than its room, and each line's call is fit.
 pub record AreFit (k : KernelSeen) (lines : List PlanLine) : Type 0 where

@@ -4,3 +4,4 @@ pub mod Rows
 pub mod Lines
 pub mod Closing
 pub mod Conditions
+pub mod Parts

@@ -1,14 +1,14 @@
 //! The blocks of a plan run on threads, each fork by a join.
 ghost use Rattle.std.specs.Prelude.{◌≡◌, true, [], ◌∷◌, OnOk, OnErr};
 ghost use denote.Param.Send.{IsSync, IsSend};
-ghost use Rattle.vm_script.specs.Told.{calls_of};
 ghost use Rattle.block_runs.specs.Callers.{IsCaller, SeesMore};
-ghost use Rattle.block_runs.specs.Conditions.{IsFitAct, MayMakeLine};
+ghost use Rattle.block_runs.specs.Conditions.{MayMakeLine};
 ghost use Rattle.block_runs.specs.Lines.{IsCallLine};
 ghost use Rattle.block_runs.specs.Rows.{IsBlockReady, IsOnWay, IsChildBorn, IsStretch, BothEnd, BlockEnds, MakesLine};
 
 use crate::calls::Calls;
 use crate::lines::{Step, ends_in, first_process, is_done, parted, step_of};
+use crate::parts::{cut_write, make_parts};
 use std::alloc::AllocError;
 use std::sync::Wait;
 use std::sync::atomic::AtomicBool;
@@ -192,19 +192,6 @@ fn run_both<R: Threads + Wait + Sync, D: Disk + Send, K: Calls<D> + Sync>(
     }
 }
 
-// The call of a line that makes one, and isn't a write.
-fn line_call(act: &PlanAct) -> &Call
-    requires line { IsCallLine act.now }
-    requires fit { IsFitAct act.now }
-    ensures { calls_of act.now ≡ record { call = result.now; bytes = [] } ∷ [] }
-{
-    match act {
-        PlanAct::Call(call) => call,
-        PlanAct::Named { call, .. } => call,
-        _ => unreachable!(),
-    }
-}
-
 /// Makes a line that is neither a wait nor a fork. The error is want of memory.
 fn make_line<R: Wait, D: Disk, K: Calls<D>>(
     rt: &R,
@@ -220,6 +207,21 @@ fn make_line<R: Wait, D: Disk, K: Calls<D>>(
     ensures made { OnOk result (MakesLine caller.old caller.new line.now) }
     ensures err { OnErr result (SeesMore caller.old caller.new []) }
 {
-    kernel.call(rt, caller, line_call(&line.act))?;
-    Ok(())
+    match &line.act {
+        PlanAct::Call(call) => {
+            kernel.call(rt, caller, call)?;
+            Ok(())
+        }
+        PlanAct::Named { call, .. } => make_parts(rt, kernel, caller, call, &[]),
+        PlanAct::Write {
+            file,
+            offset,
+            bytes,
+            ..
+        } => {
+            let (first, behind) = cut_write(*file, *offset, bytes.bytes());
+            make_parts(rt, kernel, caller, &first, behind)
+        }
+        PlanAct::Wait => unreachable!(),
+    }
 }

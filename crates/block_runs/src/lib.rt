@@ -5,9 +5,11 @@ mod blocks;
 mod calls;
 mod laws;
 mod lines;
+mod parts;
 mod tops;
 
 pub use blocks::{Stretch, run_block};
 pub use calls::Calls;
 pub use laws::{closed_law, closing_law};
+pub use parts::{bytes_in, cut_write};
 pub use tops::{run_all, run_tops};

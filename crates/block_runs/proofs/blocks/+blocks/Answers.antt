@@ -1,10 +1,10 @@
-use Rattle.std.proofs.Common.{rules, arith, ◌≡◌, ◌+◌, ◌-◌, ◌<◌, ◌++◌, Bool, true, false, [], ◌∷◌, length, Some, refl, sym, ap, ◌∙◌, subst}
+use Rattle.std.proofs.Common.{rules, arith, ◌≡◌, ◌+◌, ◌++◌, true, false, [], ◌∷◌, length, refl, sym, ap, ◌∙◌, subst}
 use Rattle.std.specs.Prelude.{drop, slice_set, slice_index_or}
 use Rattle.std.proofs.lemmas.Bool.{false≢true}
 use Rattle.vm_script.specs.declared.plan.PlanAct.TheVariants as act
 use Rattle.vm_script.proofs.Ranges as Ranges
 use Rattle.vm_kernel.specs.Callers.{CallerSeen, IsCallerOf}
-use Rattle.vm_kernel.specs.Turns.{MayCall, IsCallDone, LacksMemory, SeesBirth}
+use Rattle.vm_kernel.specs.Turns.{MayCall, SeesBirth}
 use Rattle.block_runs.specs.declared.blocks.Stretch.{Stretch}
 use Rattle.block_runs.specs.Rows.{IsChildBorn, IsStretch, BothEnd, BlockEnds, EndsAtWait}
 use Rattle.block_runs.proofs.KernelCalls.{call_lacked, told_more}
