@@ -1,5 +1,5 @@
 //! The top call.
-ghost use Rattle.std.specs.Prelude.{ℕ, ◌≡◌, ◌≤◌, ◌+◌, List, map, string_bytes};
+ghost use Rattle.std.specs.Prelude.{ℕ, ◌≡◌, ◌≤◌, ◌+◌, List, map, option_map, string_bytes};
 ghost use Rattle.volume_files.specs.block_device.StreamSeen.{SinkSeen};
 ghost use Rattle.vm_run.specs.Asked.{Given, Asked, given_of};
 ghost use Rattle.volume_files.specs.Attached.{HasRooms, attached_seen, bare_disks};
