@@ -1,1 +1,4 @@
+pub mod EntriesTold
+pub mod FilesTold
 pub mod PrintedLines
+pub mod RunsTold

@@ -15,11 +15,11 @@ use Rattle.volume_files.specs.vm_script.Processes.{kernel_parents}
 use Rattle.volume_files.specs.vm_script.Rules.{amounts_of}
 use Rattle.volume_files.specs.declared.showing.Heading.TheVariants.{Trace as traced}
 use Rattle.volume_files.specs.Opened.{OpenedFile, infos_of, opened_flat_file, opening_flat, top_processes}
-use Rattle.volume_files.specs.Texts.{extent_pairs, files_from, trace_front}
+use Rattle.volume_files.specs.Texts.{extent_pairs, files_from}
 use Rattle.flat_state.specs.Cells.{extents_of}
-use Rattle.trace_text.specs.Traces.{traced_file_text, traced_files_text, trace_text}
+use Rattle.trace_text.specs.Traces.{traced_file_text, traced_files_text}
 use Rattle.trace_text.specs.TraceForm.{IsTrace}
-use Rattle.trace_check.specs.Checks.{IsTextFor, file_of_trace, flat_of_trace}
+use Rattle.trace_check.specs.Checks.{IsTextFor, file_of_trace}
 use Rattle.printed_traces.specs.Printed.{AreBytesOf, printed_text, told_file, told_trace}
 
 -- ---- the top processes

@@ -3,8 +3,8 @@ ghost use Rattle.printed_traces.specs.Printed.{PrintedStands, PrintedIsLegal};
 
 use trace_check::one_answer_law;
 
-/// What a run prints with `--trace` before its report stands for flat memory as its processes found it and for its history,
-/// where all that is told may be told in a trace; and where that history is legal, the one answer to it says so.
+/// What a run prints with `--trace` before its report, over disks that tell, stands for flat memory as its processes found it and
+/// for its history; and the one answer to it is that it is legal.
 pub fn printed_trace_law()
     ensures stands { PrintedStands }
     ensures legal { PrintedIsLegal }

@@ -1,0 +1,43 @@
+//! The numbers of a history that no flat memory knows are numbers of their types.
+ghost use Rattle.std.specs.Prelude.{All};
+ghost use Rattle.volume_files.specs.vm_types.WellFormed.{IsNumber};
+ghost use Rattle.trace_text.specs.EntryForm.{IsLongNumber};
+ghost use Rattle.printed_traces.specs.Printed.{HasToldCounts};
+
+use volume_files::{Entry, Reply};
+
+// A `u32` is below 2^32, and a `u64` below 2^64. What is behind a reference shows this only as it is read.
+fn number_law(_number: u32)
+    ensures { IsNumber _number }
+{}
+
+fn long_number_law(_number: u64)
+    ensures { IsLongNumber _number }
+{}
+
+fn reply_law(reply: &Reply)
+    ensures { HasToldCounts reply.now }
+{
+    match reply {
+        Reply::Synced(from) => long_number_law(*from),
+        Reply::Io {
+            disk,
+            before,
+            after,
+        } => {
+            number_law(*disk);
+            long_number_law(*before);
+            long_number_law(*after);
+        }
+        _ => {}
+    }
+}
+
+/// Where the Syncs of a history began, and what its device errors name, are numbers of their types. It does nothing.
+pub fn counts_law(history: &[Entry])
+    ensures { All (λ e. HasToldCounts e.reply) history.now }
+{
+    for entry in history {
+        reply_law(&entry.reply);
+    }
+}
