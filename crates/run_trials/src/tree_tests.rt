@@ -6,7 +6,9 @@ use crate::random_tests::replays;
 use crate::trial::{Left, NEVER, NO_WORDS, run_trial};
 use flat_state::FlatState;
 use std::alloc::{AllocError, Global};
+use std::sync::Wait;
 use std::test::Fail;
+use std::thread::Threads;
 
 // A parent and its child each store into their page.
 const BOTH_SIDES: &[u8] =
@@ -27,13 +29,15 @@ const REFUSED: &[u8] =
 // Nobody waits for the two children.
 const TWO_CHILDREN: &[u8] = b"process\nfork\nend\nfork\nload 0x2000 1\nend\nend\n";
 
-/// A script of one process and its children that names no file, over so many slots, beside its report.
+/// A script of one process and its children that names no file, over so many slots, beside its report, and what a check says of
+/// its trace.
 #[derive(Clone, Copy)]
 struct Tree {
     name: &'static str,
     slots: u32,
     script: &'static [u8],
     text: &'static [u8],
+    verdict: &'static [u8],
 }
 
 const TREES: [Tree; 5] = [
@@ -42,30 +46,35 @@ const TREES: [Tree; 5] = [
         slots: 64,
         script: BOTH_SIDES,
         text: b"process 1\n2 map 0x00002000\n3 store ok\n4 fork 2\n8 store ok\n9 load 0x33\n10 exit ok\nprocess 2\n5 store ok\n6 load 0x22\n7 exit ok\n",
+        verdict: b"trace: legal 9\n",
     },
     Tree {
         name: "shared and private zero memory",
         slots: 64,
         script: SHARED_AND_PRIVATE,
         text: b"process 1\n2 map 0x00002000\n3 map 0x00004000\n4 fork 2\n9 load 0x07\n10 load 0x00\n11 exit ok\nprocess 2\n5 store ok\n6 store ok\n7 exit ok\n",
+        verdict: b"trace: legal 9\n",
     },
     Tree {
         name: "reserved and not used",
         slots: 6,
         script: RESERVED,
         text: b"process 1\n3 map 0x00002000\n4 fork error 3 NoSwap\n6 unmap ok\n7 fork 3\n9 exit ok\nprocess 2 not born\nprocess 3\n8 exit ok\n",
+        verdict: b"trace: legal 6\n",
     },
     Tree {
         name: "a fork that is refused",
         slots: 6,
         script: REFUSED,
         text: b"process 1\n3 map 0x00002000\n4 store ok\n5 fork error 3 NoSwap\n10 unmap ok\n11 fork 4\n19 load 0x09\n20 exit ok\nprocess 2 not born\nprocess 3 not born\nprocess 4\n12 store ok\n13 fork 5\n16 load 0x04\n17 exit ok\nprocess 5\n14 load 0x04\n15 exit ok\n",
+        verdict: b"trace: legal 13\n",
     },
     Tree {
         name: "two children",
         slots: 64,
         script: TWO_CHILDREN,
         text: b"process 1\n2 fork 2\n4 fork 3\n7 exit ok\nprocess 2\n3 exit ok\nprocess 3\n5 load SEGV nomap\n6 exit ok\n",
+        verdict: b"trace: legal 6\n",
     },
 ];
 
@@ -100,6 +109,38 @@ fn look_at(left: &Left, name: &str, text: &[u8], flat: FlatState) -> Result<(), 
         return Err(Fail::new(format_args!("{name}: the history")));
     }
     Ok(())
+}
+
+// Runs a script with a trace, beside turns of the pageout daemon, and checks what was printed before this report.
+fn look_at_trace(
+    rt: &(impl Threads + Wait + Sync),
+    alloc: Global,
+    script: &[u8],
+    report: &[u8],
+    verdict: &[u8],
+) -> Result<(), Fail> {
+    let left = run_trial(rt, alloc, "--trace\n--pageout\n500", script, &NEVER)?;
+    let printed = left.text.as_slice();
+    if left.status != 0 || printed.len() < report.len() {
+        return Err(Fail::new(format_args!("no trace was printed")));
+    }
+    let (trace, rest) = printed.split_at(printed.len() - report.len());
+    let checked = run_trial(rt, alloc, "--check", trace, &NEVER)?;
+    if rest != report || checked.status != 0 || checked.text.as_slice() != verdict {
+        return Err(Fail::new(format_args!("the trace, or what is said of it")));
+    }
+    Ok(())
+}
+
+#[test]
+fn what_processes_print_of_a_trace_is_legal(rt: HostRuntime) -> Result<(), Fail> {
+    let alloc = rt.alloc();
+    for tree in TREES {
+        look_at_trace(&rt, alloc, tree.script, tree.text, tree.verdict)?;
+    }
+    let script = writers_script(alloc)?;
+    let report = writers_report(alloc)?;
+    look_at_trace(&rt, alloc, script.as_bytes(), report.as_bytes(), b"trace: legal 2004\n")
 }
 
 #[test]

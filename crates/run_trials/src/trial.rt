@@ -111,7 +111,7 @@ fn run_over<R: Rack>(
     let words = words_of(alloc, words)?;
     let bytes = Vec::from_slice(alloc, script)?;
     let mut source = MemSource::new(bytes, 7, [fails.source].to_vec(alloc)?);
-    let mut out = MemSink::new(alloc, 65536, 5, [fails.sink].to_vec(alloc)?)?;
+    let mut out = MemSink::new(alloc, 262_144, 5, [fails.sink].to_vec(alloc)?)?;
     let outcome = run(rt, alloc, &words, &mut source, &mut out, rack);
     Ok((outcome, out.into_written()))
 }
