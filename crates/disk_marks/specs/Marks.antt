@@ -9,6 +9,10 @@ pub record MarksSeen : Type 0 where
   pub rows : List (List MarkRow)
   pub pushes : List (Option Pushing)
 
+-- No rows, and no pushes.
+abbrev pub no_marks : MarksSeen
+no_marks = record { rows = []; pushes = [] }
+
 -- A block of which nothing is known but that no page was there.
 abbrev pub unused_row : MarkRow
 unused_row = record { mark = Blank 0; pushed = false }

@@ -1,6 +1,6 @@
 //! The marks of all blocks, and the pushes of all seats.
 ghost use Rattle.std.specs.Prelude.{◌≡◌, ◌↔◌, ◌<◌, IsTrue, None, length, map, replicate, IfOk};
-ghost use Rattle.disk_marks.specs.Marks.{HasRow, unused_row, mark_row, push_of, with_mark_row};
+ghost use Rattle.disk_marks.specs.Marks.{HasRow, unused_row, mark_row, push_of, with_mark_row, with_push};
 ghost use Rattle.disk_marks.specs.Changes.{marks_begun, marks_written, marks_spoiled, marks_raised, marks_taken, marks_unpushed, push_cut, pushes_cut};
 
 use crate::marks::{MarkRow, Pushing};
@@ -108,44 +108,39 @@ impl DiskMarks {
 
     /// A push of a file's page begins, after so many entries. Constant time.
     pub fn begin(&mut self, seat: u32, file: u32, page: u32, from: u32)
-        requires { seat < length self.old.pushes }
         ensures { self.new ≡ marks_begun self.old seat file page from }
     {
-        self.pushes[seat as usize] = Some(Pushing {
+        let push = Pushing {
             file,
             page,
             from,
             whole: true,
-        });
+        };
+        self.keep(seat, Some(push));
     }
 
     /// The push of a seat to a block ends, and went well. Where its page was taken away meanwhile, the block's row stays.
     /// Constant time.
     pub fn end(&mut self, seat: u32, disk: u32, block: u32)
-        requires row { HasRow self.old disk block }
-        requires seat { seat < length self.old.pushes }
         ensures { self.new ≡ marks_written self.old seat disk block }
     {
-        if let Some(push) = self.pushes[seat as usize] {
+        if let Some(push) = self.push(seat) {
             self.set(disk, block, Row::held(push.from, push.whole));
         }
-        self.pushes[seat as usize] = None;
+        self.keep(seat, None);
     }
 
     /// The push of a seat to a block ends, and failed: after so many entries, with the disk's counts of faults before it and
     /// now. Constant time.
     pub fn fail(&mut self, seat: u32, disk: u32, block: u32, entries: u32, before: u64, after: u64)
-        requires row { HasRow self.old disk block }
-        requires seat { seat < length self.old.pushes }
         ensures { self.new ≡ marks_spoiled self.old seat disk block entries before after }
     {
         self.set(disk, block, Row::unsure(entries, before, after));
-        self.pushes[seat as usize] = None;
+        self.keep(seat, None);
     }
 
     /// The mark of a page that isn't modified rises: after so many entries it is blank, or its block has it. Constant time.
     pub fn raise(&mut self, disk: u32, block: u32, blank: bool, entries: u32)
-        requires { HasRow self.old disk block }
         ensures { self.new ≡ marks_raised self.old disk block blank entries }
     {
         let pushed = self.row(disk, block).pushed;
@@ -159,7 +154,6 @@ impl DiskMarks {
 
     /// The page of a block is taken away from its file, with the entry that makes it so many. Constant time.
     pub fn take_away(&mut self, disk: u32, block: u32, entries: u32)
-        requires { HasRow self.old disk block }
         ensures { self.new ≡ marks_taken self.old disk block entries }
     {
         self.set(disk, block, Row::blank(entries, false));
@@ -184,11 +178,21 @@ impl DiskMarks {
         }
     }
 
-    // The row of a block becomes this.
+    // The row of a block becomes this; nothing changes where there is no such block.
     fn set(&mut self, disk: u32, block: u32, row: Row)
-        requires { HasRow self.old disk block }
         ensures { self.new ≡ with_mark_row self.old disk block row }
     {
-        self.rows[disk as usize][block as usize] = row;
+        if self.has_row(disk, block) {
+            self.rows[disk as usize][block as usize] = row;
+        }
+    }
+
+    // The push of a seat becomes this, or none; nothing changes where there is no such seat.
+    fn keep(&mut self, seat: u32, push: Option<Pushing>)
+        ensures { self.new ≡ with_push self.old seat push }
+    {
+        if (seat as usize) < self.pushes.len() {
+            self.pushes[seat as usize] = push;
+        }
     }
 }
