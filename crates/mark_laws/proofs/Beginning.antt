@@ -14,7 +14,7 @@ use Rattle.mark_laws.specs.Pages.{bytes_there, page_there, disk_place}
 use Rattle.mark_laws.specs.MarksFit.{DiskContents, PushesFile, IsOutWith, IsBeingWritten, IsSentPage, SentFits, MarksFit}
 use Rattle.mark_laws.specs.MarkLaws.{SendsPage}
 use Rattle.page_store.proofs.TransferLemmas.{with_note-same, with_note-other}
-use Rattle.mark_laws.proofs.Rows.{push-same, push-other}
+use Rattle.disk_marks.proofs.Rows.{push-same, push-other}
 use Rattle.mark_laws.proofs.Words.{all-entries}
 
 module _ (opening : Flat) (H : List Entry) (contents : DiskContents) (notes : Notes) (m : MarksSeen) (seat : ℕ) (note : Note) (fit : MarksFit opening H contents notes m) (idle : notes seat ≡ None) where

@@ -26,7 +26,8 @@ use Rattle.mark_laws.specs.Syncs.{entries_in, HasSynced, ReachesDisk}
 use Rattle.mark_laws.specs.MarksFit.{DiskContents, OfBlock, PushesFile, IsBeingWritten, BlockFits, SentFits, MarksFit}
 use Rattle.mark_laws.specs.MarkLaws.{LeavesBlocks, HasAlone, MarksLaw, marks_by}
 use Rattle.page_store.proofs.TransferLemmas.{with_note-same, with_note-other}
-use Rattle.mark_laws.proofs.Rows.{row-other, row-there, push-other, push-left, told-alike, told-all}
+use Rattle.disk_marks.proofs.Rows.{row-other, row-there, push-other, push-left}
+use Rattle.mark_laws.proofs.Rows.{told-alike, told-all}
 use Rattle.mark_laws.proofs.Words.{held-inj, unsure-inj, few-bytes, clip-later}
 use Rattle.mark_laws.proofs.Spots.{by-name, block-here}
 use Rattle.mark_laws.proofs.Beginning.{begins-push, leaves-aside}

@@ -10,7 +10,7 @@ use Rattle.disk_marks.specs.Marks.{MarksSeen, HasRow, mark_row, push_of, with_ma
 use Rattle.disk_marks.specs.Changes.{row_written, row_spoiled, row_raised}
 use Rattle.mark_laws.specs.MarksFit.{FailureFits, FailuresFit}
 use Rattle.mark_laws.specs.FailureLaws.{CountOn, FailuresLaw}
-use Rattle.mark_laws.proofs.Rows.{row-same, row-other}
+use Rattle.disk_marks.proofs.Rows.{row-same, row-other}
 use Rattle.mark_laws.proofs.Words.{unsure-inj}
 
 -- no count fell

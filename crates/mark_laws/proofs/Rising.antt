@@ -18,7 +18,7 @@ use Rattle.mark_laws.specs.Pages.{after_first, bytes_there, page_there, disk_pla
 use Rattle.mark_laws.specs.Syncs.{entries_in, HasSynced, ReachesDisk}
 use Rattle.mark_laws.specs.MarksFit.{DiskContents, OfBlock, IsBeingWritten, BlockFits, IsDropped, SentFits, MarksFit}
 use Rattle.mark_laws.specs.RaiseLaws.{RaisesLaw}
-use Rattle.mark_laws.proofs.Rows.{row-there}
+use Rattle.disk_marks.proofs.Rows.{row-there}
 use Rattle.mark_laws.proofs.Words.{held-inj, blank-inj, told-map, all-entries}
 use Rattle.mark_laws.proofs.Spots.{at-place, by-name, block-here}
 use Rattle.mark_laws.proofs.Ending.{starts-first}

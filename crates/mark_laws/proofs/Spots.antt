@@ -7,7 +7,7 @@ use Rattle.disk_marks.specs.declared.marks.MarkRow.{MarkRow}
 use Rattle.disk_marks.specs.Marks.{MarksSeen, HasRow, mark_row, with_mark_row}
 use Rattle.mark_laws.specs.Pages.{disk_place, HavePlacesApart}
 use Rattle.mark_laws.specs.MarksFit.{DiskContents, OfBlock}
-use Rattle.mark_laws.proofs.Rows.{row-same, row-other}
+use Rattle.disk_marks.proofs.Rows.{row-same, row-other}
 use Rattle.page_store.proofs.TransferLemmas.{is-or-not}
 
 module _ (F : Flat) (apart : HavePlacesApart F) (m : MarksSeen) (name : PageName) (disk block : ℕ) (at : disk_place F name ≡ Some (disk, block)) (has : HasRow m disk block) (row : MarkRow) where
