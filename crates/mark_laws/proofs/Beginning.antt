@@ -1,5 +1,5 @@
 -- Transfers that begin.
-use Rattle.std.proofs.Common.{◌≡◌, ◌≢◌, ℕ, ◌<◌, ◌≤◌, true, List, length, Option, Some, None, refl, sym, ap, ◌∙◌, inl, inr, subst, arith}
+use Rattle.std.proofs.Common.{◌≡◌, ◌≢◌, ℕ, ◌<◌, true, List, length, Option, Some, None, refl, sym, ap, ◌∙◌, inl, inr, subst, arith}
 use Rattle.std.proofs.lemmas.Bool.{cases_eq}
 use Rattle.std.proofs.lemmas.Option.{same_Some, slice_get_within}
 use Rattle.flat_model.specs.vm_types.declared.call.Entry.{Entry}
@@ -11,7 +11,7 @@ use Rattle.disk_marks.specs.declared.marks.Pushing.{Pushing}
 use Rattle.disk_marks.specs.Marks.{MarksSeen, mark_row, push_of}
 use Rattle.disk_marks.specs.Changes.{marks_begun}
 use Rattle.mark_laws.specs.Pages.{bytes_there, page_there, disk_place}
-use Rattle.mark_laws.specs.MarksFit.{DiskContents, PushesFile, IsOutWith, IsBeingWritten, IsSentPage, SentFits, MarksFit}
+use Rattle.mark_laws.specs.MarksFit.{DiskContents, PushesFile, IsOutWith, IsBeingWritten, IsSentPage, SentFits, MarksFit, pushed_page}
 use Rattle.mark_laws.specs.MarkLaws.{SendsPage}
 use Rattle.page_store.proofs.TransferLemmas.{with_note-same, with_note-other}
 use Rattle.disk_marks.proofs.Rows.{push-same, push-other}
@@ -46,6 +46,9 @@ module _ (opening : Flat) (H : List Entry) (contents : DiskContents) (notes : No
 
     pub begins-push : MarksFit opening H contents (with_note notes seat (Some note)) begun
     begins-push = record {
+      kept = fit.kept;
+      rows = fit.rows;
+      free = fit.free;
       there = fit.there;
       early = fit.early;
       blocks = λ name disk block at free. fit.blocks name disk block at (λ w. free (still name w));
@@ -73,6 +76,10 @@ module _ (opening : Flat) (H : List Entry) (contents : DiskContents) (notes : No
             let o = fit.out t push (sym (push-other m seat t (Some begin) ne) ∙ is) in
             record { note = o.note; there = with_note-other notes seat t (Some note) ne ∙ o.there; pushes = o.pushes; name = o.name }
       ];
+      inside = λ t push is. elim (cases_eq t seat) [
+        | inl e ↦ subst (λ (p : Pushing). 0 < bytes_there (replay opening H) (pushed_page p)) (is-begin t push e is) sends.inside
+        | inr ne ↦ fit.inside t push (sym (push-other m seat t (Some begin) ne) ∙ is)
+      ];
       synced = fit.synced;
       later = λ k b t name push synced is named. elim (cases_eq t seat) [
         | inl e ↦ subst (λ (p : Pushing). k < p.from) (is-begin t push e is) (slice_get_within H k synced.entry synced.at)
@@ -83,6 +90,9 @@ module _ (opening : Flat) (H : List Entry) (contents : DiskContents) (notes : No
   -- ANY OTHER TRANSFER BEGINS.
   pub leaves-aside : ¬ PushesFile note → MarksFit opening H contents (with_note notes seat (Some note)) m
   leaves-aside aside = record {
+    kept = fit.kept;
+    rows = fit.rows;
+    free = fit.free;
     there = fit.there;
     early = fit.early;
     blocks = λ name disk block at free. fit.blocks name disk block at (λ w. free (still name w));
@@ -97,6 +107,7 @@ module _ (opening : Flat) (H : List Entry) (contents : DiskContents) (notes : No
           pushes = o.pushes;
           name = o.name;
         };
+    inside = fit.inside;
     synced = fit.synced;
     later = fit.later;
   }

@@ -1,6 +1,6 @@
 -- Transfers that end.
-use Rattle.std.proofs.Common.{◌≡◌, ◌≢◌, ℕ, ◌<◌, ◌≤◌, Bool, true, false, List, [], length, Option, Some, None, refl, sym, ap, ◌∙◌, inl, inr, subst, arith}
-use Rattle.std.specs.Prelude.{IfSome, slice_get, slice_index_or, is_some}
+use Rattle.std.proofs.Common.{◌≡◌, ◌≢◌, ℕ, ◌<◌, ◌≤◌, true, false, List, [], length, Option, Some, None, refl, sym, ap, ◌∙◌, inl, inr, subst, arith}
+use Rattle.std.specs.Prelude.{IfSome, slice_index_or}
 use Rattle.std.proofs.lemmas.Bool.{cases_eq}
 use Rattle.std.proofs.lemmas.List.{get_or-set_same, length-set}
 use Rattle.std.proofs.lemmas.Option.{same_Some, slice_get_within}
@@ -12,7 +12,6 @@ use Rattle.flat_model.specs.History.{replay, Legal, IsStart}
 use Rattle.page_store.specs.block_device.DiskSeen.{with_block, HasBlocks}
 use Rattle.page_store.specs.core_arena.Bytes.{zeros}
 use Rattle.page_store.specs.page_hash.declared.PageName.{PageName}
-use Rattle.page_store.specs.Bays.{block_of}
 use Rattle.page_store.specs.Bytes.{clip}
 use Rattle.page_store.specs.Flight.{FlightSeen, Progress, fresh, done, failed, IsPerformed, IsWritten as WroteBlock}
 use Rattle.page_store.specs.Notes.{Note, Notes, with_note}
@@ -69,6 +68,9 @@ module _ (opening : Flat) (H : List Entry) (old new : DiskContents) (notes : Not
   -- IT READ, or wrote no file's page.
   pub returns-aside : ¬ PushesFile note → ((name : PageName) (disk block : ℕ) → disk_place (replay opening H) name ≡ Some (disk, block) → name.object ≢ 64) → MarksFit opening H new (with_note notes seat None) m
   returns-aside aside files = record {
+    kept = fit.kept;
+    rows = fit.rows;
+    free = fit.free;
     there = fit.there;
     early = fit.early;
     blocks = λ name disk block at free.
@@ -84,6 +86,7 @@ module _ (opening : Flat) (H : List Entry) (old new : DiskContents) (notes : Not
           pushes = o.pushes;
           name = o.name;
         };
+    inside = fit.inside;
     synced = fit.synced;
     later = fit.later;
   }
@@ -105,6 +108,10 @@ module _ (opening : Flat) (H : List Entry) (old new : DiskContents) (notes : Not
         → ((k b : ℕ) → HasSynced opening H k b note.name → ReachesDisk k b row.mark)
         → MarksFit opening H new (with_note notes seat None) (with-row row)
     came-with row early block blanks reaches = record {
+      kept = fit.kept;
+      rows = λ disk b lt. row-there m note.number note.block disk b row (fit.rows disk b lt);
+      free = λ disk b none.
+          row-other m note.number note.block disk b row has (λ x y. none note.name (place ∙ (λ i. Some (sym x i, sym y i)))) ∙ fit.free disk b none;
       there = λ name disk b at. row-there m note.number note.block disk b row (fit.there name disk b at);
       early = λ name disk b at. by_name (λ (r : MarkRow). entries_in r.mark ≤ length H) name disk b at (λ _. early) (λ _. fit.early name disk b at);
       blocks = λ name disk b at free. by_name (λ (r : MarkRow). OfBlock new disk b (BlockFits opening H name r)) name disk b at
@@ -122,6 +129,7 @@ module _ (opening : Flat) (H : List Entry) (old new : DiskContents) (notes : Not
           let l = push-left (with_mark_row m note.number note.block row) seat t push is in
           let o = fit.out t push l.1 in
           record { note = o.note; there = with_note-other notes seat t None l.0 ∙ o.there; pushes = o.pushes; name = o.name };
+      inside = λ t push is. fit.inside t push (push-left (with_mark_row m note.number note.block row) seat t push is).1;
       synced = λ k b name disk bl syn at. by_name (λ (r : MarkRow). ReachesDisk k b r.mark) name disk bl at
           (λ e. reaches k b (subst (λ (n : PageName). HasSynced opening H k b n) e syn)) (λ _. fit.synced k b name disk bl syn at);
       later = λ k b t name push syn is named. fit.later k b t name push syn (push-left (with_mark_row m note.number note.block row) seat t push is).1 named;

@@ -1,9 +1,15 @@
 pub mod Rows
 pub mod Words
+pub mod PagePlaces
+pub mod FreeBlocks
 pub mod FilesStay
+pub mod Along
+pub mod Shortenings
+pub mod Cutting
 pub mod Spots
 pub mod Beginning
 pub mod Ending
 pub mod Rising
 pub mod Entered
+pub mod Shortened
 pub mod Failing

@@ -18,7 +18,7 @@ use Rattle.mark_laws.specs.Pages.{after_first, bytes_there, page_there, disk_pla
 use Rattle.mark_laws.specs.Syncs.{entries_in, HasSynced, ReachesDisk}
 use Rattle.mark_laws.specs.MarksFit.{DiskContents, OfBlock, IsBeingWritten, BlockFits, IsDropped, SentFits, MarksFit}
 use Rattle.mark_laws.specs.RaiseLaws.{RaisesLaw}
-use Rattle.disk_marks.proofs.Rows.{row-there}
+use Rattle.disk_marks.proofs.Rows.{row-other, row-there}
 use Rattle.mark_laws.proofs.Words.{held-inj, blank-inj, told-map, all-entries}
 use Rattle.mark_laws.proofs.Spots.{at-place, by-name, block-here}
 use Rattle.mark_laws.proofs.Ending.{starts-first}
@@ -32,6 +32,9 @@ module _ (opening : Flat) (H : List Entry) (contents : DiskContents) (notes : No
       → ((seat : ℕ) (note : Note) → notes seat ≡ Some note → note.writes ≡ true → note.name ≡ name → IsDropped (mark_row m disk block) → IsDropped row)
       → MarksFit opening H contents notes (with_mark_row m disk block row)
   rises row new fits blanks sure dropped = record {
+    kept = fit.kept;
+    rows = λ d c lt. row-there m disk block d c row (fit.rows d c lt);
+    free = λ d c none. row-other m disk block d c row has (λ x y. none name (at ∙ (λ i. Some (sym x i, sym y i)))) ∙ fit.free d c none;
     there = λ n d c a. row-there m disk block d c row (fit.there n d c a);
     early = λ n d c a. by_name (λ (r : MarkRow). entries_in r.mark ≤ length H) n d c a (λ _. omega (arith, new)) (λ _. fit.early n d c a);
     blocks = λ n d c a free. by_name (λ (r : MarkRow). OfBlock contents d c (BlockFits opening H n r)) n d c a
@@ -48,6 +51,7 @@ module _ (opening : Flat) (H : List Entry) (contents : DiskContents) (notes : No
         (subst (λ (y : ℕ). SentFits opening H (mark_row m y block) note (push_of m k)) here.0 (subst (λ (y : ℕ). SentFits opening H (mark_row m note.number y) note (push_of m k)) here.1 (fit.sent k note is writes far))))
         (λ _. fit.sent k note is writes far);
     out = fit.out;
+    inside = fit.inside;
     synced = λ k b n d c syn a. by_name (λ (r : MarkRow). ReachesDisk k b r.mark) n d c a
         (λ e. let s = subst (λ (y : PageName). HasSynced opening H k b y) e syn in
         let lt = slice_get_within H k s.entry s.at in let first = starts-first opening H legal k b name s in record {

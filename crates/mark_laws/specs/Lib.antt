@@ -3,6 +3,8 @@ pub mod FileLaws
 pub mod Syncs
 pub mod MarksFit
 pub mod MarkLaws
+pub mod Cuts
+pub mod CutLaws
 pub mod RaiseLaws
 pub mod EntryLaws
 pub mod FailureLaws

@@ -13,10 +13,11 @@ use Rattle.disk_marks.specs.Changes.{marks_begun, marks_written, marks_spoiled}
 use Rattle.mark_laws.specs.Pages.{bytes_there, page_there, disk_place, HavePlacesApart}
 use Rattle.mark_laws.specs.MarksFit.{DiskContents, PushesFile, MarksFit}
 
--- A push of a file's page sends it as it is in flat memory, to its place.
+-- A push of a file's page sends it as it is in flat memory, to its place; the page lies before the file's end.
 pub record SendsPage (F : Flat) (note : Note) : Type 0 where
   pub pushes : PushesFile note
   pub place : disk_place F note.name ≡ Some (note.number, note.block)
+  pub inside : 0 < bytes_there F note.name
   pub valid : note.valid ≡ bytes_there F note.name
   pub page : clip note.valid note.bytes ≡ page_there F note.name
 

@@ -4,6 +4,7 @@ use Rattle.flat_model.specs.vm_types.declared.call.Entry.{Entry}
 use Rattle.flat_model.specs.Counted.{top_count}
 use Rattle.flat_model.specs.Flat.{Flat}
 use Rattle.flat_model.specs.History.{replay}
+use Rattle.flat_model.specs.vnode_files.Files.{block_count}
 use Rattle.page_store.specs.core_arena.Bytes.{zeros}
 use Rattle.page_store.specs.page_hash.declared.PageName.{PageName}
 use Rattle.page_store.specs.Bytes.{clip}
@@ -11,7 +12,8 @@ use Rattle.page_store.specs.Notes.{Note, Notes}
 use Rattle.disk_marks.specs.declared.marks.Mark.TheVariants.{Held, Blank, Unsure}
 use Rattle.disk_marks.specs.declared.marks.MarkRow.{MarkRow}
 use Rattle.disk_marks.specs.declared.marks.Pushing.{Pushing}
-use Rattle.disk_marks.specs.Marks.{MarksSeen, HasRow, mark_row, push_of}
+use Rattle.disk_marks.specs.Marks.{MarksSeen, HasRow, unused_row, mark_row, push_of}
+use Rattle.mark_laws.specs.FileLaws.{HaveBlocks}
 use Rattle.mark_laws.specs.Pages.{after_first, bytes_there, page_there, disk_place, HasPage}
 use Rattle.mark_laws.specs.Syncs.{entries_in, HasSynced, ReachesDisk}
 
@@ -66,10 +68,15 @@ abbrev pub SentFits : Flat → List Entry → MarkRow → Note → Option Pushin
 SentFits opening H row note (Some push) = IsSentPage opening H note push
 SentFits opening H row note None = IsDropped row
 
--- THE MARKS FIT an opening, the history, what the disks have, and the notes. The page of a file that has a place there has a row, whose mark names no entry
+-- THE MARKS FIT an opening, the history, what the disks have, and the notes. Files had blocks for their pages at the opening; each block of a disk has a row,
+-- an unused one where no page of a file has it. The page of a file that has a place there has a row, whose mark names no entry
 -- that wasn't made; but for a block that is being written, each block has what its row says; and a page that is Blank was zeros. A push of a file's page
--- goes to its place, and sends the page as it was when it began, unless it was taken away; and each push that is kept is out. And each Sync that answered reached the disk.
+-- goes to its place, and sends the page as it was when it began, unless it was taken away; and each push that is kept is out, and its page lies before its
+-- file's end. And each Sync that answered reached the disk.
 pub record MarksFit (opening : Flat) (H : List Entry) (contents : DiskContents) (notes : Notes) (m : MarksSeen) : Type 0 where
+  pub kept : HaveBlocks opening
+  pub rows : (disk block : ℕ) → block < block_count (replay opening H).disks disk → HasRow m disk block
+  pub free : (disk block : ℕ) → ((name : PageName) → disk_place (replay opening H) name ≢ Some (disk, block)) → mark_row m disk block ≡ unused_row
   pub there : (name : PageName) (disk block : ℕ) → disk_place (replay opening H) name ≡ Some (disk, block) → HasRow m disk block
   pub early : (name : PageName) (disk block : ℕ) → disk_place (replay opening H) name ≡ Some (disk, block) → entries_in (mark_row m disk block).mark ≤ length H
   pub blocks : (name : PageName) (disk block : ℕ) → disk_place (replay opening H) name ≡ Some (disk, block) → ¬ IsBeingWritten notes name
@@ -81,6 +88,7 @@ pub record MarksFit (opening : Flat) (H : List Entry) (contents : DiskContents) 
   pub sent : (seat : ℕ) (note : Note) → notes seat ≡ Some note → note.writes ≡ true → note.name.object ≢ 64
       → SentFits opening H (mark_row m note.number note.block) note (push_of m seat)
   pub out : (seat : ℕ) (push : Pushing) → push_of m seat ≡ Some push → IsOutWith notes seat push
+  pub inside : (seat : ℕ) (push : Pushing) → push_of m seat ≡ Some push → 0 < bytes_there (replay opening H) (pushed_page push)
   pub synced : (k b : ℕ) (name : PageName) (disk block : ℕ) → HasSynced opening H k b name → disk_place (replay opening H) name ≡ Some (disk, block)
       → ReachesDisk k b (mark_row m disk block).mark
   pub later : (k b seat : ℕ) (name : PageName) (push : Pushing) → HasSynced opening H k b name → push_of m seat ≡ Some push → pushed_page push ≡ name

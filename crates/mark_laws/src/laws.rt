@@ -1,14 +1,21 @@
 //! The laws.
+ghost use Rattle.mark_laws.specs.CutLaws.{CutsLaw};
 ghost use Rattle.mark_laws.specs.EntryLaws.{EntriesLaw};
 ghost use Rattle.mark_laws.specs.FailureLaws.{FailuresLaw};
 ghost use Rattle.mark_laws.specs.FileLaws.{FilesStay};
 ghost use Rattle.mark_laws.specs.MarkLaws.{MarksLaw};
 ghost use Rattle.mark_laws.specs.RaiseLaws.{RaisesLaw};
 
-/// Where a step leaves the blocks and the ends of the files.
+/// Where a step leaves the blocks and the ends of the files, and which blocks new pages have.
 #[tactic(auto, using(crate::proofs::FilesStay::files_stay_rule))]
 pub fn files_stay_law()
     ensures { FilesStay }
+{}
+
+/// Which entries make a file shorter.
+#[tactic(auto, using(crate::proofs::Shortenings::cuts_rule))]
+pub fn cuts_law()
+    ensures { CutsLaw }
 {}
 
 /// Marks stay true as a transfer begins and as it ends, however it went.
@@ -23,8 +30,8 @@ pub fn raises_law()
     ensures { RaisesLaw }
 {}
 
-/// They stay true as an entry is made; and a Sync that answers reached the disk from then on.
-#[tactic(auto, using(crate::proofs::Entered::entries_rule))]
+/// They stay true as an entry is made, whether files get longer or shorter; and a Sync that answers reached the disk from then on.
+#[tactic(auto, using(crate::proofs::Shortened::entries_rule))]
 pub fn entries_law()
     ensures { EntriesLaw }
 {}
