@@ -2,7 +2,6 @@
 use Rattle.std.proofs.Common.{◌≡◌, ◌≢◌, ℕ, ◌==◌, Bool, true, false, cond, List, length, Option, Some, None, refl, sym, ap, ◌∙◌, inl, inr, subst, arith}
 use Rattle.std.specs.Prelude.{slice_set, option_map, ◌&&◌, not}
 use Rattle.std.proofs.lemmas.Bool.{cases_eq}
-use Rattle.std.proofs.lemmas.Bool.Decides.{eqb_tells}
 use Rattle.std.proofs.lemmas.List.{get_or-set_same, get_or-set_other}
 use Rattle.vm_world.specs.flat_model.Flat.{Flat}
 use Rattle.page_store.specs.block_device.Counts.{HasRisen}
@@ -11,8 +10,8 @@ use Rattle.page_store.specs.page_hash.declared.PageName.{PageName}
 use Rattle.page_store.specs.Bays.{BaySeen, missing, home, out, bay_at}
 use Rattle.page_store.specs.Flight.{FlightSeen, Progress, fresh, done, failed}
 use Rattle.page_store.specs.Notes.{Note, Notes, with_note}
-use Rattle.mark_laws.specs.disk_marks.Marks.{MarksSeen, HasRow}
-use Rattle.mark_laws.specs.MarksFit.{PushesFile, FailuresFit}
+use Rattle.mark_laws.specs.disk_marks.Marks.{MarksSeen}
+use Rattle.mark_laws.specs.MarksFit.{FailuresFit}
 use Rattle.mark_laws.specs.MarkLaws.{marks_by}
 use Rattle.mark_laws.specs.FailureLaws.{CountOn}
 use Rattle.page_store.proofs.TransferLemmas.{with_note-same, with_note-other, home-within}
@@ -99,31 +98,27 @@ module _ (opening : Flat) (s : KernelState) (new : World) (cut : PageName → Bo
     kept : FailuresFit now m
     kept = failures_rule.keep was now m counts-on fails
 
-    by_outcome : HasRow m sent.note.number sent.note.block → (o : Progress) → f.outcome ≡ o → FailuresFit now (marks_by m seat sent.note (length s.history) f o)
-    by_outcome has fresh e = kept
-    by_outcome has done e = failures_rule.written now m seat sent.note.number sent.note.block has kept
-    by_outcome has failed e =
+    by_outcome : (o : Progress) → f.outcome ≡ o → FailuresFit now (marks_by m seat sent.note (length s.history) f o)
+    by_outcome fresh e = kept
+    by_outcome done e = failures_rule.written now m seat sent.note.number sent.note.block kept
+    by_outcome failed e =
         let later = back.performed.later in
         let before = back.performed.before in
         let risen = back.performed.risen e in
-        failures_rule.spoiled now m seat sent.note.number sent.note.block (length s.history) f.before f.disk.faults has kept
+        failures_rule.spoiled now m seat sent.note.number sent.note.block (length s.history) f.before f.disk.faults kept
         (subst (λ (n : ℕ). HasRisen n f.disk.faults) (sym before) risen) (omega (arith, later, before)) back.most here
 
-    by_write : (PushesFile sent.note → HasRow m sent.note.number sent.note.block) → (a b : Bool) → sent.note.writes ≡ a → (sent.note.name.object == 64) ≡ b
-        → FailuresFit now (cond (a && not b) (marks_by m seat sent.note (length s.history) f f.outcome) m)
-    by_write has false b x y = kept
-    by_write has true true x y = kept
-    by_write has true false x y = by_outcome (has (record { writes = x; far = λ e. let z : false ≡ true = sym y ∙ slot-is sent.note.name.object e in cc })) f.outcome refl
-      where
-        slot-is : (o : ℕ) → o ≡ 64 → (o == 64) ≡ true
-        slot-is o e = elim (eqb_tells o 64) [ inl same ↦ same.0 | inr ne ↦ absurd (ne.1 e) ]
+    by_write : (a b : Bool) → FailuresFit now (cond (a && not b) (marks_by m seat sent.note (length s.history) f f.outcome) m)
+    by_write false b = kept
+    by_write true true = kept
+    by_write true false = by_outcome f.outcome refl
 
-    pub failures-end : (PushesFile sent.note → HasRow m sent.note.number sent.note.block) → FailuresOf (after_step s new pending) (with_sent seats seat None) (marks_ended m seat sent.note (length s.history) f)
-    failures-end has = subst (λ (n : Notes). FailuresFit (λ disk. faults_in (bay_at new.store.bays disk) n) (marks_ended m seat sent.note (length s.history) f)) (sym (notes-return seats seat))
-        (by_write has sent.note.writes (sent.note.name.object == 64) refl refl)
+    pub failures-end : FailuresOf (after_step s new pending) (with_sent seats seat None) (marks_ended m seat sent.note (length s.history) f)
+    failures-end = subst (λ (n : Notes). FailuresFit (λ disk. faults_in (bay_at new.store.bays disk) n) (marks_ended m seat sent.note (length s.history) f)) (sym (notes-return seats seat))
+        (by_write sent.note.writes (sent.note.name.object == 64))
 
 pub state_failures_rule : StateFailuresLaw
 state_failures_rule = record {
   leaves = λ opening s new cut pending seat seats sent m fit fails idle step. failures-leave opening s new cut pending seat seats sent m fit fails idle step;
-  ends = λ opening s new cut pending seat seats sent f m fit fails is step back has. failures-end opening s new cut pending seat seats sent m fit fails f is step back has;
+  ends = λ opening s new cut pending seat seats sent f m fit fails is step back. failures-end opening s new cut pending seat seats sent m fit fails f is step back;
 }

@@ -4,3 +4,4 @@ pub mod Moving
 pub mod OpeningRows
 pub mod Raised
 pub mod Failed
+pub mod Answered

@@ -31,12 +31,14 @@ use Rattle.vm_world.specs.HistoryFits.{HistoryFits}
 use Rattle.vm_world.specs.Pages.{page_value}
 use Rattle.vm_world.specs.State.{KernelState, Seats, Sent, notes_of, with_sent}
 use Rattle.vm_world.specs.StateSteps.{after_step, ComesBack}
+use Rattle.vm_world.specs.vnode_files.Files.{vnode_at}
 use Rattle.vm_world.specs.World.{World, world_table, page_exists, is_unpushed, file_blocks, AllTell}
 use Rattle.vm_world.specs.WorldSteps.{WorldStep, leaves, returns}
 use Rattle.vm_world.proofs.FlatWhole.{some-inj}
 use Rattle.vm_world.proofs.PageNames.{not-slot}
 use Rattle.state_marks.specs.StateMarks.{PagesFit, MarksOf, SendsFrame, StateMarksLaw, marks_ended}
-use Rattle.state_marks.proofs.Places.{real, place-there, valid-there, shows-there, places-apart, place-low}
+use Rattle.mark_laws.proofs.Along.{before-some}
+use Rattle.state_marks.proofs.Places.{real, below, ends-there, place-there, valid-there, shows-there, places-apart, place-low}
 use Rattle.state_marks.proofs.Contents.{content-leaves, content-noted, content-apart}
 
 -- the notes of the seats as one has a transfer outside, and as it has none any more
@@ -93,6 +95,8 @@ module _ (opening : Flat) (s : KernelState) (new : World) (cut : PageName → Bo
             record {
               pushes = sends.pushes;
               place = place-there s.memory s.born notes opening s.history s.pending h sent.note.name fit.memory.files sends.pushes.far exists ∙ (λ i. Some (sends.disk i, sends.block i));
+              inside = let low = below s.memory s.born notes opening s.history s.pending h sent.note.name fit.memory.files sends.pushes.far exists in
+                  subst (λ (n : ℕ). 0 < n) (sym (ends-there s.memory s.born notes opening s.history s.pending h sent.note.name fit.memory.files sends.pushes.far exists)) (before-some (vnode_at s.memory.world.files sent.note.name.object).info.length sent.note.name.page low);
               valid = end;
               page = ap (λ (n : ℕ). clip n sent.note.bytes) end
                   ∙ ap (clip (bytes_there (replay opening s.history) sent.note.name)) (sym shows)

@@ -1,6 +1,7 @@
 -- The marks at the opening.
-use Rattle.std.proofs.Common.{◌≡◌, ◌≢◌, ℕ, zero, suc, ◌<◌, ◌≤◌, ◌+◌, ◌-◌, ◌*◌, min, Bool, true, false, cond, List, [], ◌∷◌, ◌++◌, length, take, replicate, Option, Some, None, refl, sym, ap, ◌∙◌, inl, inr, subst, arith}
-use Rattle.std.specs.Prelude.{not, slice_index_or, slice_get, option_map, IfSome}
+use Rattle.std.proofs.Common.{◌≡◌, ◌≢◌, ℕ, zero, suc, ◌<◌, ◌≤◌, ◌+◌, ◌-◌, ◌*◌, min, Bool, true, false, cond, List, [], ◌∷◌, ◌++◌, length, map, take, replicate, Option, Some, None, refl, sym, ap, ◌∙◌, inl, inr, subst, arith}
+use Rattle.std.specs.Prelude.{not, slice_index_or, slice_get, option_map, unwrap_or, IfSome, IsSome}
+use Rattle.std.specs.FinMap as finite
 use Rattle.std.specs.Option.{option_map_or}
 use Rattle.std.proofs.lemmas.Option.{slice_get-map, slice_get_within}
 use Rattle.vm_world.specs.vm_types.Pages.{pages_in, bytes_before}
@@ -15,34 +16,38 @@ use Rattle.page_store.specs.Notes.{no_notes}
 use Rattle.page_store.specs.Value.{content_of, value, value_in, backing_value}
 use Rattle.page_store.specs.declared.place.Place.{Place}
 use Rattle.vm_world.specs.vnode_files.declared.vnode.FileInfo.{FileInfo}
-use Rattle.vm_world.specs.vnode_files.Files.{vnode_at}
+use Rattle.vm_world.specs.vnode_files.Files.{vnode_at, block_count}
 use Rattle.vm_world.specs.vnode_files.Grow.{page_count}
+use Rattle.vm_world.specs.vnode_files.Layout.{disk_of_file, block_of_page}
 use Rattle.vm_world.specs.vnode_files.Vnode.{VnodeSeen, page_blocks, is_blank}
 use Rattle.vm_world.proofs.vnode_files.BlockLemmas.{length-page_blocks}
-use Rattle.vm_world.specs.flat_model.Flat.{Flat}
-use Rattle.vm_world.specs.FlatMemory.{Memory, flat_memory}
+use Rattle.vm_world.proofs.vnode_files.LayoutLaws.{file_layout_law}
+use Rattle.vm_world.specs.flat_model.Flat.{File, Flat}
+use Rattle.vm_world.specs.FlatMemory.{Memory, flat_memory, file_with_pages}
 use Rattle.vm_world.specs.HistoryFits.{HistoryFits}
 use Rattle.vm_world.specs.Opening.{IsOpening, IsOpeningMemory}
-use Rattle.vm_world.specs.Pages.{page_value}
+use Rattle.vm_world.specs.Pages.{page_value, contents_of}
 use Rattle.vm_world.specs.State.{KernelState}
 use Rattle.vm_world.specs.World.{world_table, is_unpushed, file_blocks, AllTell}
 use Rattle.mark_laws.specs.disk_marks.declared.marks.Mark.TheVariants.{Held, Blank}
 use Rattle.mark_laws.specs.disk_marks.declared.marks.MarkRow.{MarkRow}
 use Rattle.mark_laws.specs.disk_marks.declared.marks.Pushing.{Pushing}
-use Rattle.mark_laws.specs.disk_marks.Marks.{MarksSeen, HasRow, mark_row}
+use Rattle.mark_laws.specs.disk_marks.Marks.{MarksSeen, HasRow, unused_row, mark_row}
 use Rattle.mark_laws.specs.Pages.{after_first, bytes_there, file_page, page_there, disk_place, HasPage}
+use Rattle.mark_laws.specs.FileLaws.{HaveBlocks, KeepsPages}
 use Rattle.mark_laws.specs.Syncs.{entries_in}
 use Rattle.mark_laws.specs.MarksFit.{BlockFits, MarksFit}
 use Rattle.mark_laws.proofs.Rows.{told-all}
 use Rattle.mark_laws.proofs.Words.{few-bytes, held-inj, blank-inj}
 use Rattle.state_marks.specs.OpeningMarks.{AreOpeningMarks, OpeningMarksLaw, opening_row}
 use Rattle.page_store.proofs.page_hash.NameLaws.{find-at}
+use Rattle.vm_world.proofs.FilePages.{file-in, length-pages_from}
 use Rattle.vm_world.proofs.FlatWhole.{some-inj}
 use Rattle.vm_world.proofs.Openings.{opening_law, opening-pages}
 use Rattle.std.proofs.lemmas.Bool.{cases_lt}
 use Rattle.std.proofs.lemmas.List.{length-append, length-take, length-replicate}
-use Rattle.vm_world.proofs.PageNames.{file-page, file-place, file-there, file-apart, not-slot}
-use Rattle.state_marks.proofs.Places.{kept-there, end-now, page-now}
+use Rattle.vm_world.proofs.PageNames.{file-page, file-place, file-there, file-apart, info-there, not-slot}
+use Rattle.state_marks.proofs.Places.{kept-there, kept-place, end-now, page-now}
 use Rattle.page_store.proofs.EndLemmas.{clip-twice}
 
 -- zeros that end with the file are zeros
@@ -58,6 +63,12 @@ zeros-there F name =
     both (suc a) b = let e : suc a + b ≡ suc (a + b) = omega arith in
         subst (λ (k : ℕ). take (suc a) (replicate {A = ℕ} k 0) ++ replicate b 0 ≡ replicate k 0) (sym e) (ap (λ (l : List ℕ). 0 ∷ l) (both a b))
 
+-- no push is out
+none-out : (n k : ℕ) → slice_index_or (replicate {A = Option Pushing} n None) k None ≡ None
+none-out zero k = refl
+none-out (suc n) zero = refl
+none-out (suc n) (suc k) = none-out n k
+
 -- what no frame holds has the value that its disk has
 value-backing_value : (m : Memory) (parents : List ℕ) → IsOpeningMemory m parents → (name : PageName) → value m.world.store no_notes (world_table m.world) name ≡ backing_value m.world.store no_notes (world_table m.world name)
 value-backing_value m parents o name = by_found (find m.world.store.names name) refl
@@ -66,7 +77,7 @@ value-backing_value m parents o name = by_found (find m.world.store.names name) 
     by_found None e = refl
     by_found (Some frame) e = absurd (let z : ◌≡◌ {A = Option PageName} None (Some name) = sym (o.store.unnamed frame) ∙ find-at m.world.store.names name frame e in cc)
 
-module _ (s : KernelState) (m : MarksSeen) (o : IsOpening s) (marks : AreOpeningMarks s.memory.world m) (tell : AllTell s.memory.world no_notes)
+module _ (s : KernelState) (m : MarksSeen) (seats : ℕ) (o : IsOpening s) (marks : AreOpeningMarks s.memory.world.files seats m) (tell : AllTell s.memory.world no_notes)
     (replays : HistoryFits (flat_memory s.memory s.born no_notes) s.history s.pending (flat_memory s.memory s.born no_notes)) where
   abbrev F : Flat
   F = flat_memory s.memory s.born no_notes
@@ -95,7 +106,60 @@ module _ (s : KernelState) (m : MarksSeen) (o : IsOpening s) (marks : AreOpening
   row : (name : PageName) (disk block : ℕ) → disk_place F name ≡ Some (disk, block) → mark_row m disk block ≡ opening_row (is_blank (vnode_at s.memory.world.files name.object) name.page)
   row name disk block at =
       let k = kept name disk block at in
-      sym (λ i. mark_row m (k.3 i) (k.4 i)) ∙ marks.rows name k.0 k.1
+      let d = sym k.3 ∙ ap (λ (p : Place). p.disk) k.2 in
+      let b = sym k.4 ∙ ap (λ (p : Place). p.block) k.2 in
+      (λ i. mark_row m (d i) (b i)) ∙ marks.pages name.object name.page k.0 k.1
+
+  -- its block has a row
+  has : (name : PageName) (disk block : ℕ) → disk_place F name ≡ Some (disk, block) → HasRow m disk block
+  has name disk block at =
+      let k = kept name disk block at in
+      let d : disk_of_file s.memory.world.files name.object ≡ disk = sym (ap (λ (p : Place). p.disk) k.2) ∙ k.3 in
+      let b : block_of_page s.memory.world.files name.object name.page ≡ block = sym (ap (λ (p : Place). p.block) k.2) ∙ k.4 in
+      subst (λ (x : ℕ). HasRow m x block) d (subst (λ (y : ℕ). HasRow m (disk_of_file s.memory.world.files name.object) y) b
+      (by_disk name k.0 k.1 (finite.get s.memory.world.files.disks (disk_of_file s.memory.world.files name.object)) refl (o.memory.files.set name.object k.0)))
+    where
+      by_disk : (name : PageName) → name.object < length s.memory.world.files.files → name.page < page_count (vnode_at s.memory.world.files name.object).info.extents
+          → (c : Option ℕ) → finite.get s.memory.world.files.disks (disk_of_file s.memory.world.files name.object) ≡ c → IsSome c
+          → HasRow m (disk_of_file s.memory.world.files name.object) (block_of_page s.memory.world.files name.object name.page)
+      by_disk name within below None e some = absurd (let z : false ≡ true = some in cc)
+      by_disk name within below (Some blocks) e some =
+          let on = file_layout_law.on_disks s.memory.world.files o.memory.files.lie name.object name.page within below in
+          marks.there (disk_of_file s.memory.world.files name.object) blocks (block_of_page s.memory.world.files name.object name.page) e
+          (subst (λ (n : ℕ). block_of_page s.memory.world.files name.object name.page < n) (ap (λ (c : Option ℕ). unwrap_or c 0) e) on.1)
+
+  -- files have blocks for their pages
+  all-kept : HaveBlocks F
+  all-kept f file at = by_info (slice_get (map (λ (v : VnodeSeen). v.info) s.memory.world.files.files) f) refl
+      (sym (file-in (contents_of s.memory.world no_notes).file 0 f (map (λ (v : VnodeSeen). v.info) s.memory.world.files.files)) ∙ at)
+    where
+      by_info : (o : Option FileInfo) → slice_get (map (λ (v : VnodeSeen). v.info) s.memory.world.files.files) f ≡ o
+          → option_map (file_with_pages ((contents_of s.memory.world no_notes).file (0 + f))) o ≡ Some file → KeepsPages file
+      by_info None e is = absurd (let z : ◌≡◌ {A = Option File} None (Some file) = is in cc)
+      by_info (Some info) e is =
+          let t = info-there s.memory.world.files f info e in
+          let page = (contents_of s.memory.world no_notes).file (0 + f) in
+          let within : info.length ≤ page_count info.extents * 4096 = subst (λ (i : FileInfo). i.length ≤ page_count i.extents * 4096) t.1 (o.memory.files.each f t.0).within in
+          let blocks = length-page_blocks info.extents in
+          let pages = length-pages_from page 0 (pages_in info.length) in
+          subst KeepsPages (some-inj (file_with_pages page info) file is) (record {
+            pages = omega (arith, within, blocks, pages);
+            len = omega (arith, within, blocks);
+          })
+
+  -- each block of a disk has a row
+  all-rows : (disk block : ℕ) → block < block_count F.disks disk → HasRow m disk block
+  all-rows disk block lt = by_count (finite.get s.memory.world.files.disks disk) refl lt
+    where
+      by_count : (c : Option ℕ) → finite.get s.memory.world.files.disks disk ≡ c → block < unwrap_or c 0 → HasRow m disk block
+      by_count None e lt = absurd (omega (arith, lt))
+      by_count (Some blocks) e lt = marks.there disk blocks block e lt
+
+  -- nothing is known of a block that no page has
+  all-free : (disk block : ℕ) → ((name : PageName) → disk_place F name ≢ Some (disk, block)) → mark_row m disk block ≡ unused_row
+  all-free disk block none = marks.free disk block (λ file page within below on its.
+      none (record { object = file; page = page })
+      (kept-place s.memory s.born no_notes F [] 0 h (record { object = file; page = page }) within below ∙ (λ i. Some (on i, its i))))
 
   -- what flat memory has of the page: what its place has
   module _ (name : PageName) (disk block : ℕ) (at : disk_place F name ≡ Some (disk, block)) where
@@ -181,7 +245,10 @@ module _ (s : KernelState) (m : MarksSeen) (o : IsOpening s) (marks : AreOpening
   -- THE MARKS FIT at the opening.
   pub opening-marks : MarksFit F [] (content_of s.memory.world.store no_notes) no_notes m
   opening-marks = record {
-    there = λ name disk block at. let k = kept name disk block at in subst (λ (d : ℕ). HasRow m d block) k.3 (subst (λ (b : ℕ). HasRow m (world_table s.memory.world name).disk b) k.4 (marks.there name k.0 k.1));
+    kept = all-kept;
+    rows = all-rows;
+    free = all-free;
+    there = has;
     early = λ name disk block at. by_row (λ (r : MarkRow). entries_in r.mark ≤ 0) name disk block at (λ _. omega arith) (λ _. omega arith);
     blocks = λ name disk block at free. by_row (λ (r : MarkRow). IfSome (content_of s.memory.world.store no_notes disk) (λ blocks. BlockFits F [] name r (slice_index_or blocks block []))) name disk block at
         (λ is. told-all (BlockFits F [] name (record { mark = Blank 0; pushed = false })) block (content_of s.memory.world.store no_notes disk) (λ blocks told. record {
@@ -200,10 +267,11 @@ module _ (s : KernelState) (m : MarksSeen) (o : IsOpening s) (marks : AreOpening
         (λ is e. absurd (let z : Held 0 ≡ Blank j = e in cc));
     places = λ seat note is _ _. absurd (cc);
     sent = λ seat note is _ _. absurd (cc);
-    out = λ seat push is. absurd (let z : ◌≡◌ {A = Option Pushing} None (Some push) = sym (marks.idle seat) ∙ is in cc);
+    out = λ seat push is. absurd (let z : ◌≡◌ {A = Option Pushing} None (Some push) = sym (ap (λ (ps : List (Option Pushing)). slice_index_or ps seat None) marks.pushes ∙ none-out seats seat) ∙ is in cc);
+    inside = λ seat push is. absurd (let z : ◌≡◌ {A = Option Pushing} None (Some push) = sym (ap (λ (ps : List (Option Pushing)). slice_index_or ps seat None) marks.pushes ∙ none-out seats seat) ∙ is in cc);
     synced = λ k b name disk block syn at. absurd (let z : ◌≡◌ {A = Option Entry} None (Some syn.entry) = syn.at in cc);
     later = λ k b seat name push syn is named. absurd (let z : ◌≡◌ {A = Option Entry} None (Some syn.entry) = syn.at in cc);
   }
 
 pub opening_marks_rule : OpeningMarksLaw
-opening_marks_rule = record { fits = λ s m o marks tell. subst (λ (H : List Entry). MarksFit (flat_memory s.memory s.born no_notes) H (content_of s.memory.world.store no_notes) no_notes m) (sym o.history) (opening-marks s m o marks tell ((opening_law.fits s o).replays tell)) }
+opening_marks_rule = record { fits = λ s m seats o marks tell. subst (λ (H : List Entry). MarksFit (flat_memory s.memory s.born no_notes) H (content_of s.memory.world.store no_notes) no_notes m) (sym o.history) (opening-marks s m seats o marks tell ((opening_law.fits s o).replays tell)) }

@@ -18,6 +18,7 @@ use Rattle.vm_world.specs.anon_slots.Slots.{count_at, is_used}
 use Rattle.vm_world.specs.vnode_files.Grow.{page_count}
 use Rattle.vm_world.specs.vnode_files.declared.vnode.FileInfo.{FileInfo}
 use Rattle.vm_world.specs.vnode_files.Files.{vnode_at}
+use Rattle.vm_world.specs.vnode_files.Layout.{disk_of_file, block_of_page}
 use Rattle.vm_world.specs.vnode_files.Vnode.{VnodeSeen, page_blocks}
 use Rattle.vm_world.specs.flat_model.Flat.{Flat, File, IsFile}
 use Rattle.vm_world.specs.flat_model.History.{replay}
@@ -51,7 +52,7 @@ module _ (m : Memory) (born : set.FinSet nat_cmp) (notes : Notes) (opening : Fla
   infos = map (λ (v : VnodeSeen). v.info) m.world.files.files
 
   -- the file of a number, as it is and by the history
-  cleared : (f : ℕ) → option_map (λ (file : File). cond (is_bit_set pending f) (without_tail file) file) (slice_get (replay opening H).files f)
+  pub cleared : (f : ℕ) → option_map (λ (file : File). cond (is_bit_set pending f) (without_tail file) file) (slice_get (replay opening H).files f)
       ≡ option_map (file_with_pages ((contents_of m.world notes).file f)) (slice_get infos f)
   cleared f =
       sym (cleared_tails_law.each (replay opening H) (is_bit_set pending) f)
@@ -106,6 +107,13 @@ module _ (m : Memory) (born : set.FinSet nat_cmp) (notes : Notes) (opening : Fla
                 refl,
                 t.0,
               )
+
+  -- .. and a page that its file keeps has its place
+  pub kept-place : (name : PageName) → name.object < length m.world.files.files → name.page < page_count (vnode_at m.world.files name.object).info.extents
+      → disk_place (replay opening H) name ≡ Some (disk_of_file m.world.files name.object, block_of_page m.world.files name.object name.page)
+  kept-place name lt below = place-now name
+      ∙ ap (λ (o : Option FileInfo). place-by o name.page) (slice_get-map (λ (v : VnodeSeen). v.info) m.world.files.files name.object ∙ ap (option_map (λ (v : VnodeSeen). v.info)) (file-there m.world.files name.object lt))
+      ∙ ap (option_map (λ (block : ℕ). (let z : ℕ × ℕ = ((vnode_at m.world.files name.object).info.disk, block) in z))) (keeps-page m.world.files name.object name.page lt below).place
 
   -- no two pages of files have one place
   pub places-apart : FilesFit m.world.files → (a b : PageName) (disk block : ℕ) → disk_place (replay opening H) a ≡ Some (disk, block) → disk_place (replay opening H) b ≡ Some (disk, block) → a ≡ b
@@ -193,10 +201,13 @@ module _ (m : Memory) (born : set.FinSet nat_cmp) (notes : Notes) (opening : Fla
         ∙ ap (option_map (λ (block : ℕ). (let z : ℕ × ℕ = (vnode.info.disk, block) in z))) (keeps-page m.world.files name.object name.page kept.0 kept.1).place
         ∙ (λ i. Some (sym (ap (λ (p : Place). p.disk) table-place) i, sym (ap (λ (p : Place). p.block) table-place) i))
 
+    pub ends-there : bytes_there (replay opening H) name ≡ bytes_before (vnode_at m.world.files name.object).info.length name.page
+    ends-there = end-now name ∙ ap (λ (o : Option FileInfo). end-by o name.page) info-at
+
     pub valid-there : (world_table m.world name).valid ≡ bytes_there (replay opening H) name
     valid-there = ap (λ (p : Place). p.valid) table-place
         ∙ (let z : min (vnode.info.length - name.page * 4096) 4096 ≡ min 4096 (vnode.info.length - 4096 * name.page) = omega arith in z)
-        ∙ sym (end-now name ∙ ap (λ (o : Option FileInfo). end-by o name.page) info-at)
+        ∙ sym ends-there
 
     pub shows-there : page_there (replay opening H) name ≡ clip (bytes_there (replay opening H) name) (page_value m.world notes name)
     shows-there = page-now name kept.0 far below

@@ -1,2 +1,3 @@
 pub mod StateMarks
 pub mod OpeningMarks
+pub mod StateEntries

@@ -9,7 +9,7 @@ use Rattle.page_store.specs.Flight.{FlightSeen}
 use Rattle.page_store.specs.Notes.{Note}
 use Rattle.page_store.specs.Value.{content_of}
 use Rattle.mark_laws.specs.disk_marks.declared.marks.Pushing.{Pushing}
-use Rattle.mark_laws.specs.disk_marks.Marks.{MarksSeen, HasRow, push_of}
+use Rattle.mark_laws.specs.disk_marks.Marks.{MarksSeen, push_of}
 use Rattle.mark_laws.specs.disk_marks.Changes.{marks_begun, marks_raised}
 use Rattle.mark_laws.specs.MarksFit.{pushed_page, PushesFile, MarksFit, FailuresFit}
 use Rattle.mark_laws.specs.MarkLaws.{marks_by}
@@ -96,5 +96,4 @@ pub record StateFailuresLaw : Type 0 where
   pub ends : (opening : Flat) (s : KernelState) (new : World) (cut : PageName → Bool) (pending seat : ℕ) (seats : Seats) (sent : Sent) (f : FlightSeen) (m : MarksSeen)
       → PagesFit opening s seats → FailuresOf s seats m → seats seat ≡ Some sent
       → WorldStep s.memory.world new s.memory.spaces (returns seat sent.note) cut → ComesBack sent.note f new
-      → (PushesFile sent.note → HasRow m sent.note.number sent.note.block)
       → FailuresOf (after_step s new pending) (with_sent seats seat None) (marks_ended m seat sent.note (length s.history) f)

@@ -1,5 +1,6 @@
 //! The laws.
 ghost use Rattle.state_marks.specs.OpeningMarks.{OpeningMarksLaw};
+ghost use Rattle.state_marks.specs.StateEntries.{StateEntriesLaw};
 ghost use Rattle.state_marks.specs.StateMarks.{StateFailuresLaw, StateMarksLaw, StateRaiseLaw};
 
 /// The marks at the opening are true.
@@ -24,4 +25,10 @@ pub fn state_raise_law()
 #[tactic(auto, using(crate::proofs::Failed::state_failures_rule))]
 pub fn state_failures_law()
     ensures { StateFailuresLaw }
+{}
+
+/// They stay true with each entry, and so do the failures: also where files get longer or shorter.
+#[tactic(auto, using(crate::proofs::Answered::state_entries_rule))]
+pub fn state_entries_law()
+    ensures { StateEntriesLaw }
 {}

@@ -3,4 +3,6 @@
 
 mod laws;
 
-pub use laws::{opening_marks_law, state_failures_law, state_marks_law, state_raise_law};
+pub use laws::{
+    opening_marks_law, state_entries_law, state_failures_law, state_marks_law, state_raise_law,
+};
