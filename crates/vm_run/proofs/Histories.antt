@@ -1,87 +1,51 @@
 -- What the history of a kernel that was closed has of the plan: its calls are well formed, and its entries not many.
-use Rattle.std.proofs.Common.{◌≡◌, ℕ, zero, suc, ◌+◌, ◌-◌, ◌<◌, ◌≤◌, ◌==◌, ◌^◌, Bool, true, false, cond, List, [], ◌∷◌, ◌++◌, length, Option, Some, None, refl, sym, ap, ◌∙◌, ◌⊎◌, inl, inr, subst, arith, eq-eqb}
-use Rattle.std.specs.Prelude.{All, IsTrue, MatchOption, drop, filter, flat_map, slice_get, slice_index, slice_set, sum_by}
-use Rattle.std.specs.List.{list_all}
-use mathlib.Core.List.{IsPrefix}
-use Rattle.std.proofs.lemmas.Bool.{cases_Bool, cases_eq, cases_lt, ne_eqb, eqb-true}
+use Rattle.std.proofs.Common.{◌≡◌, ℕ, zero, suc, ◌-◌, ◌<◌, ◌≤◌, ◌==◌, Bool, true, false, cond, List, [], ◌∷◌, ◌++◌, length, refl, sym, ap, ◌∙◌, inl, inr, subst, arith, eq-eqb}
+use Rattle.std.specs.Prelude.{All, drop, filter, flat_map, slice_index, slice_set, sum_by}
+use Rattle.std.proofs.lemmas.Bool.{cases_Bool, cases_eq, cases_lt, ne_eqb}
 use Rattle.std.proofs.lemmas.List.{get_or-set_same, get_or-set_other}
-use Rattle.std.proofs.lemmas.List.Elements.{All-nil, All-cons, All-append, All-head, All-tail}
-use Rattle.std.proofs.lemmas.List.Sums.{sum_by-set, AllPass-from_list_all}
+use Rattle.std.proofs.lemmas.List.Elements.{All-nil, All-cons, All-append, All-head, All-tail, All-drop}
+use Rattle.std.proofs.lemmas.List.Sums.{sum_by-set}
 use Rattle.volume_files.specs.vm_types.declared.call.Call.{Call}
-use Rattle.volume_files.specs.vm_types.declared.call.Call.TheVariants.{Load, Store, Map, Unmap, Protect, Sync, Read, Write, Truncate, Fork, Exit}
 use Rattle.volume_files.specs.vm_types.declared.call.Entry.{Entry}
-use Rattle.volume_files.specs.vm_types.declared.call.Reply.{Reply}
-use Rattle.volume_files.specs.vm_types.Parts.{next_part, part_bytes}
+use Rattle.volume_files.specs.vm_types.Parts.{HasRest, first_write, part_bytes}
 use Rattle.volume_files.specs.vm_types.WellFormed.{IsWellFormed}
-use Rattle.volume_files.specs.flat_model.Told.{SpelledLine, Spells, SpellsAll, entries_of}
+use Rattle.volume_files.specs.vm_types.Words.{IsByte}
+use Rattle.volume_files.specs.flat_model.Told.{Spells, SpellsAll, entries_of}
 use Rattle.volume_files.specs.vm_script.declared.plan.PlanAct.{PlanAct}
 use Rattle.volume_files.specs.vm_script.declared.plan.PlanAct.TheVariants as act
 use Rattle.volume_files.specs.vm_script.declared.plan.PlanLine.{PlanLine}
 use Rattle.volume_files.specs.vm_script.PlanSeen.{PlanSeen}
 use Rattle.volume_files.specs.vm_script.Sound.{IsSoundAct}
-use Rattle.volume_files.specs.vm_script.Told.{Spell, ToldFront, calls_of, is_born, own_lines}
+use Rattle.volume_files.specs.vm_script.Told.{Spell, ToldFront, calls_of, is_born}
 use Rattle.vm_core.specs.vm_world.State.{room_of}
-use Rattle.vm_run.specs.Asked.{is_served_act, is_served_call, is_served_named}
-
--- A CALL THAT IS SERVED ends with its entry
-no-more-parts : (c : Call) (r : Reply) (bytes : List ℕ) → IsTrue (is_served_call c) → next_part c r bytes ≡ None
-unfolding next_part
-no-more-parts (Load a n) r bytes is = refl
-no-more-parts (Store a n v) r bytes is = refl
-no-more-parts (Map place len prot kind object offset) r bytes is = refl
-no-more-parts (Unmap a len) r bytes is = refl
-no-more-parts (Protect a len prot) r bytes is = refl
-no-more-parts (Sync a len) r bytes is = refl
-no-more-parts (Read file offset len) r bytes is = absurd (let z : false ≡ true = is in cc)
-no-more-parts (Write file offset line rest) r bytes is = absurd (let z : false ≡ true = is in cc)
-no-more-parts (Truncate file len) r bytes is = absurd (let z : false ≡ true = is in cc)
-no-more-parts (Fork child) r bytes is = refl
-no-more-parts Exit r bytes is = refl
-
-named-served : (c : Call) → IsTrue (is_served_named c) → IsTrue (is_served_call c)
-named-served (Map place len prot kind object offset) is = refl
-named-served (Load a n) is = absurd (let z : false ≡ true = is in cc)
-named-served (Store a n v) is = absurd (let z : false ≡ true = is in cc)
-named-served (Unmap a len) is = absurd (let z : false ≡ true = is in cc)
-named-served (Protect a len prot) is = absurd (let z : false ≡ true = is in cc)
-named-served (Sync a len) is = absurd (let z : false ≡ true = is in cc)
-named-served (Read file offset len) is = absurd (let z : false ≡ true = is in cc)
-named-served (Write file offset line rest) is = absurd (let z : false ≡ true = is in cc)
-named-served (Truncate file len) is = absurd (let z : false ≡ true = is in cc)
-named-served (Fork child) is = absurd (let z : false ≡ true = is in cc)
-named-served Exit is = absurd (let z : false ≡ true = is in cc)
+use Rattle.vm_run.proofs.FitLines.{first-formed, named-rest, no-rest, spelled-formed}
 
 abbrev IsFormed : Entry → Type 0
 IsFormed e = IsWellFormed e.call
 
-one-formed : (c : Call) (es : List Entry) → IsTrue (is_served_call c) → IsWellFormed c → Spells c [] es → All IsFormed es
-one-formed c [] is formed spells = absurd spells
-one-formed c (e ∷ es) is formed spells =
-    let none : es ≡ [] = subst (λ (o : Option Call). MatchOption o (es ≡ []) (λ (next : Call). Spells next (drop (length (part_bytes next)) []) es)) (no-more-parts c e.reply [] is) spells.1 in
-    subst (λ (xs : List Entry). All IsFormed (e ∷ xs)) (sym none) (All-cons IsFormed e [] (subst IsWellFormed (sym spells.0) formed) (All-nil IsFormed))
+abbrev IsSound : PlanLine → Type 0
+IsSound l = IsSoundAct l.act
 
--- a line that is served and sound
-record IsGood (l : PlanLine) : Type 0 where
-  served : IsTrue (is_served_act l.act)
-  sound : IsSoundAct l.act
-
--- the entries that spell such lines
-lines-formed : (lines : List PlanLine) (es : List Entry) → All IsGood lines → Spell lines es → All IsFormed es
-lines-formed [] es good spells = subst (All IsFormed) (sym spells) (All-nil IsFormed)
-lines-formed (l ∷ lines) es good spells =
-    let here = All-head IsGood l lines good in
-    by_act (λ xs s. lines-formed lines xs (All-tail IsGood l lines good) s) l.act here.served here.sound spells
+-- THE ENTRIES that spell sound lines
+lines-formed : (lines : List PlanLine) (es : List Entry) → All IsSound lines → Spell lines es → All IsFormed es
+lines-formed [] es sound spells = subst (All IsFormed) (sym spells) (All-nil IsFormed)
+lines-formed (l ∷ lines) es sound spells =
+    by_act (λ xs s. lines-formed lines xs (All-tail IsSound l lines sound) s) l.act (All-head IsSound l lines sound) spells
   where
-    both : ((xs : List Entry) → Spell lines xs → All IsFormed xs) → (c : Call) → IsTrue (is_served_call c) → IsWellFormed c
-        → (front : List Entry) × (rest : List Entry) × (es ≡ front ++ rest) × Spells c [] front × SpellsAll (flat_map (λ (k : PlanLine). calls_of k.act) lines) rest → All IsFormed es
-    both later c is formed s = subst (All IsFormed) (sym s.2) (All-append IsFormed s.0 s.1 (one-formed c s.0 is formed s.3) (later s.1 s.4))
+    both : ((xs : List Entry) → Spell lines xs → All IsFormed xs) → (c : Call) (bytes : List ℕ) → IsWellFormed c → HasRest c bytes → All IsByte bytes
+        → (front : List Entry) × (rest : List Entry) × (es ≡ front ++ rest) × Spells c bytes front × SpellsAll (flat_map (λ (k : PlanLine). calls_of k.act) lines) rest → All IsFormed es
+    both later c bytes formed rest each s = subst (All IsFormed) (sym s.2) (All-append IsFormed s.0 s.1 (spelled-formed c bytes s.0 formed rest each s.3) (later s.1 s.4))
 
-    by_act : ((xs : List Entry) → Spell lines xs → All IsFormed xs) → (a : PlanAct) → IsTrue (is_served_act a) → IsSoundAct a
+    by_act : ((xs : List Entry) → Spell lines xs → All IsFormed xs) → (a : PlanAct) → IsSoundAct a
         → SpellsAll (calls_of a ++ flat_map (λ (k : PlanLine). calls_of k.act) lines) es → All IsFormed es
-    by_act later (act.Call c) is sound s = both later c is sound s
-    by_act later (act.Named name c) is sound s = both later c (named-served c is) sound s
-    by_act later (act.Write name file offset bytes) is sound s = absurd (let z : false ≡ true = is in cc)
-    by_act later act.Wait is sound s = later es s
+    by_act later (act.Call c) is s = both later c [] is.0 (no-rest c is.1) (All-nil IsByte) s
+    by_act later (act.Named name c) is s = both later c [] is.0 (named-rest c is.1).0 (All-nil IsByte) s
+    by_act later (act.Write name file offset bytes) is s =
+        let first : Call = first_write file offset bytes in
+        let most = is.2.1 in
+        let formed = first-formed file offset bytes is.0 is.1 is.2.0 (omega (arith, most)) is.2.2 in
+        both later first (drop (length (part_bytes first)) bytes) formed.0 formed.1 (All-drop IsByte (length (part_bytes first)) bytes is.2.2) s
+    by_act later act.Wait is s = later es s
 
 -- what holds of each process's entries holds of all
 by-owner : (P : Entry → Type 0) (H : List Entry) → ((p : ℕ) → All P (entries_of H p)) → All P H
@@ -104,24 +68,20 @@ all-filter P f (l ∷ lines) all = by_test (all-filter P f lines (All-tail P l l
     by_test rest true = All-cons P l (filter f lines) (All-head P l lines all) rest
     by_test rest false = rest
 
-all-front : (P : PlanLine → Type 0) (front rest : List PlanLine) → All P (front ++ rest) → All P front
+pub all-front : (P : PlanLine → Type 0) (front rest : List PlanLine) → All P (front ++ rest) → All P front
 all-front P [] rest all = All-nil P
 all-front P (l ∷ front) rest all = All-cons P l front (All-head P l (front ++ rest) all) (all-front P front rest (All-tail P l (front ++ rest) all))
 
 -- EACH CALL IS WELL FORMED
-pub all-formed : (plan : PlanSeen) (H : List Entry) → list_all (λ (l : PlanLine). is_served_act l.act) plan.lines ≡ true → All (λ (l : PlanLine). IsSoundAct l.act) plan.lines → ToldFront plan H
-    → All (λ (e : Entry). IsWellFormed e.call) H
-all-formed plan H served sound told = by-owner IsFormed H own
+pub all-formed : (plan : PlanSeen) (H : List Entry) → All (λ (l : PlanLine). IsSoundAct l.act) plan.lines → ToldFront plan H → All (λ (e : Entry). IsWellFormed e.call) H
+all-formed plan H sound told = by-owner IsFormed H own
   where
-    good : All IsGood plan.lines
-    good i d lt = record { served = AllPass-from_list_all (λ (l : PlanLine). is_served_act l.act) plan.lines served i d lt; sound = sound i d lt }
-
     own : (p : ℕ) → All IsFormed (entries_of H p)
     own p = elim (cases_Bool (is_born plan H p)) [
       | inl born ↦
           let front = told.front p born in
           lines-formed (told.lines_of p) (entries_of H p)
-          (all-front IsGood (told.lines_of p) front.0 (subst (All IsGood) (sym front.1) (all-filter IsGood (λ (l : PlanLine). l.process == p) plan.lines good)))
+          (all-front IsSound (told.lines_of p) front.0 (subst (All IsSound) (sym front.1) (all-filter IsSound (λ (l : PlanLine). l.process == p) plan.lines sound)))
           (told.tells.own p born)
       | inr unborn ↦ subst (All IsFormed) (sym (told.tells.others p unborn)) (All-nil IsFormed)
     ]

@@ -1,43 +1,31 @@
 -- The row of a kernel's callers, from its start to its close.
-use Rattle.std.proofs.Common.{◌≡◌, ℕ, zero, suc, ◌+◌, ◌<◌, ◌≤◌, ◌^◌, Bool, true, false, not, List, [], ◌∷◌, ◌++◌, length, map, replicate, Option, Some, None, refl, sym, ap, ◌∙◌, subst, arith, length-append}
-use Rattle.std.specs.Prelude.{All, IsTrue}
-use Rattle.std.specs.List.{AllByRecursion, list_all, list_any}
-use Rattle.std.proofs.lemmas.Bool.{not-false, or_parts}
-use Rattle.std.proofs.lemmas.List.Elements.{All-nil, All-cons, All-head, All-tail}
-use Rattle.std.proofs.lemmas.List.Sums.{AllPass-from_list_all}
+use Rattle.std.proofs.Common.{◌≡◌, ℕ, zero, suc, ◌+◌, ◌<◌, ◌≤◌, Bool, true, List, [], ◌∷◌, ◌++◌, length, map, replicate, Option, None, refl, sym, ap, ◌∙◌, subst, arith, length-append}
+use Rattle.std.specs.Prelude.{All}
+use Rattle.std.proofs.lemmas.List.Elements.{All-nil, All-cons}
 use mathlib.Core.Option.{some}
 use lib.ListN.{get_elem?}
-use Rattle.kernel_lock.specs.Seats.{HasAll, IsClosed, newcomer}
+use Rattle.kernel_lock.specs.Seats.{HasAll, newcomer}
 use Rattle.kernel_lock.specs.declared.board.SeatPart.{SeatPart}
 use Rattle.volume_files.specs.block_device.DiskSeen.{DiskSeen}
 use Rattle.volume_files.specs.flat_model.Flat.{Flat}
-use Rattle.volume_files.specs.vm_types.declared.call.Call.{Call}
-use Rattle.volume_files.specs.vm_types.declared.call.Call.TheVariants as call
 use Rattle.volume_files.specs.vm_types.declared.call.Entry.{Entry}
-use Rattle.volume_files.specs.vm_types.WellFormed.{IsWellFormed}
 use Rattle.volume_files.specs.flat_model.Told.{entries_of}
-use Rattle.volume_files.specs.vm_script.declared.plan.PlanAct.{PlanAct}
-use Rattle.volume_files.specs.vm_script.declared.plan.PlanAct.TheVariants as act
-use Rattle.volume_files.specs.vm_script.declared.plan.PlanLine.{PlanLine}
-use Rattle.volume_files.specs.vm_script.Blocks.{AreProcessBlocks, IsInner}
+use Rattle.volume_files.specs.vm_script.Blocks.{AreProcessBlocks}
 use Rattle.volume_files.specs.vm_script.Counts.{entry_count}
 use Rattle.volume_files.specs.vm_script.PlanSeen.{PlanSeen}
-use Rattle.volume_files.specs.vm_script.Rules.{is_join}
-use Rattle.volume_files.specs.vm_script.Sound.{IsSoundAct}
 use Rattle.volume_files.specs.vm_script.Told.{Told, ToldFront, own_lines}
 use Rattle.volume_files.specs.vnode_files.Files.{FilesSeen}
 use Rattle.vm_core.proofs.vm_world.Told.{event_law}
 use Rattle.vm_core.specs.vm_world.Events.{IsSince}
 use Rattle.vm_core.specs.vm_world.Opening.{no_seats}
-use Rattle.vm_core.specs.vm_world.State.{Fixed, KernelState, Seats, Sent, room_of, seats_of}
+use Rattle.vm_core.specs.vm_world.State.{Fixed, KernelState, Sent, room_of}
 use Rattle.vm_kernel.specs.Callers.{CallerSeen, IsCallerOf, KernelSeen, caller_part}
 use Rattle.vm_kernel.specs.Rooms.{callers_from}
 use Rattle.vm_kernel.specs.Since.{IsSinceOpening}
 use Rattle.block_runs.specs.Callers.{IsCaller, IsClock, rooms, tree}
-use Rattle.block_runs.specs.Conditions.{IsFitAct, IsFitCall}
 use Rattle.block_runs.specs.Rows.{AreFresh, AreNumbered, AreBlocksReady}
-use Rattle.vm_run.specs.Asked.{is_served_act, is_served_call, is_served_named}
 use Rattle.vm_run.specs.Played.{HasPlayed, IsPlayable, IsStarted, rooms_from}
+use Rattle.vm_run.proofs.FitLines.{fit-all}
 use Rattle.vm_run.proofs.Histories.{all-formed, few-entries}
 
 -- THE CALLERS AT THE START: those of the processes, and the last, which moves the clock
@@ -88,53 +76,22 @@ new-row k j (e ∷ es) (v ∷ vs) last is =
 pub some-caller : (k : KernelSeen) (es : List ℕ) → callers_from k 0 (rooms_from 0 es) ≡ [] → ⊥
 some-caller k es is = let long = ap (λ (cs : List CallerSeen). length cs) is in let all = length-callers k 0 es in omega (arith, long, all)
 
--- THE LINES may be made
-fit-call : (c : Call) → IsTrue (is_served_call c) → IsWellFormed c → IsFitCall (record { call = c; bytes = [] })
-fit-call (call.Load a n) is formed = record { formed = formed; one = refl; rest = tt }
-fit-call (call.Store a n v) is formed = record { formed = formed; one = refl; rest = tt }
-fit-call (call.Map place len prot kind o offset) is formed = record { formed = formed; one = refl; rest = tt }
-fit-call (call.Unmap a len) is formed = record { formed = formed; one = refl; rest = tt }
-fit-call (call.Protect a len prot) is formed = record { formed = formed; one = refl; rest = tt }
-fit-call (call.Sync a len) is formed = record { formed = formed; one = refl; rest = tt }
-fit-call (call.Read file offset len) is formed = absurd (let z : false ≡ true = is in cc)
-fit-call (call.Write file offset line rest) is formed = absurd (let z : false ≡ true = is in cc)
-fit-call (call.Truncate file len) is formed = absurd (let z : false ≡ true = is in cc)
-fit-call (call.Fork child) is formed = record { formed = formed; one = refl; rest = tt }
-fit-call call.Exit is formed = record { formed = formed; one = refl; rest = tt }
-
-fit-named : (c : Call) → IsTrue (is_served_named c) → IsTrue (is_served_call c) × IsInner (act.Call c)
-fit-named (call.Map place len prot kind o offset) is = (refl, tt)
-fit-named (call.Load a n) is = absurd (let z : false ≡ true = is in cc)
-fit-named (call.Store a n v) is = absurd (let z : false ≡ true = is in cc)
-fit-named (call.Unmap a len) is = absurd (let z : false ≡ true = is in cc)
-fit-named (call.Protect a len prot) is = absurd (let z : false ≡ true = is in cc)
-fit-named (call.Sync a len) is = absurd (let z : false ≡ true = is in cc)
-fit-named (call.Read file offset len) is = absurd (let z : false ≡ true = is in cc)
-fit-named (call.Write file offset line rest) is = absurd (let z : false ≡ true = is in cc)
-fit-named (call.Truncate file len) is = absurd (let z : false ≡ true = is in cc)
-fit-named (call.Fork child) is = absurd (let z : false ≡ true = is in cc)
-fit-named call.Exit is = absurd (let z : false ≡ true = is in cc)
-
-fit-act : (a : PlanAct) → IsTrue (is_served_act a) → IsSoundAct a → IsFitAct a
-fit-act (act.Call c) is sound = (fit-call c is sound, tt)
-fit-act (act.Named name c) is sound = let named = fit-named c is in (fit-call c named.0 sound, named.1)
-fit-act (act.Write name file offset bytes) is sound = absurd (let z : false ≡ true = is in cc)
-fit-act act.Wait is sound = tt
-
-fit-all : (lines : List PlanLine) → list_all (λ (l : PlanLine). is_served_act l.act) lines ≡ true → All (λ (l : PlanLine). IsSoundAct l.act) lines → AllByRecursion (λ (l : PlanLine). IsFitAct l.act) lines
-fit-all lines served sound = by-line lines (AllPass-from_list_all (λ (l : PlanLine). is_served_act l.act) lines served) sound
-  where
-    by-line : (ls : List PlanLine) → All (λ (l : PlanLine). IsTrue (is_served_act l.act)) ls → All (λ (l : PlanLine). IsSoundAct l.act) ls → AllByRecursion (λ (l : PlanLine). IsFitAct l.act) ls
-    by-line [] s t = tt
-    by-line (l ∷ ls) s t = (
-      fit-act l.act (All-head (λ (k : PlanLine). IsTrue (is_served_act k.act)) l ls s) (All-head (λ (k : PlanLine). IsSoundAct k.act) l ls t),
-      by-line ls (All-tail (λ (k : PlanLine). IsTrue (is_served_act k.act)) l ls s) (All-tail (λ (k : PlanLine). IsSoundAct k.act) l ls t),
-    )
-
-all-served : (plan : PlanSeen) → IsPlayable plan → list_all (λ (l : PlanLine). is_served_act l.act) plan.lines ≡ true
-all-served plan may =
-    not-false (list_all (λ (l : PlanLine). is_served_act l.act) plan.lines)
-    (or_parts (list_any (λ l. is_join l.act) plan.setup) (not (list_all (λ (l : PlanLine). is_served_act l.act) plan.lines)) may.now).1
+-- WHAT THE PROCESSES LEFT, which made no entry outside the lines
+pub played-since : (plan : PlanSeen) (F : Flat) (disks : List (ℕ × DiskSeen)) (swap : Option DiskSeen) (files : FilesSeen) (s t : KernelState) (whole : Bool) → IsStarted plan F disks swap files s → IsPlayable plan
+    → IsSince s t no_seats → (whole ≡ true → Told plan t.history) → ToldFront plan t.history → HasPlayed plan s t whole
+played-since plan F disks swap files s t whole st may since told front =
+    let fits = since.fits F st.fits in
+    let same : t.entries ≡ s.entries = ap (λ (f : Fixed). f.entries) since.fixed in
+    let made : (p : ℕ) → length (entries_of t.history p) ≤ room_of s.entries p = λ p. subst (λ (rs : List ℕ). length (entries_of t.history p) ≤ room_of rs p) same (fits.rooms.made p) in
+    let most = few-entries t.history s.entries made in
+    let few = st.rooms.all in
+    record {
+      since = since;
+      told = told;
+      front = front;
+      formed = all-formed plan t.history may.sound.acts front;
+      few = omega (arith, most, few);
+    }
 
 -- ALL BLOCKS may be run
 module _ (plan : PlanSeen) (F : Flat) (disks : List (ℕ × DiskSeen)) (swap : Option DiskSeen) (files : FilesSeen) (s : KernelState) (st : IsStarted plan F disks swap files s)
@@ -145,20 +102,20 @@ module _ (plan : PlanSeen) (F : Flat) (disks : List (ℕ × DiskSeen)) (swap : O
   pub same-rooms : rooms k ≡ s.entries
   same-rooms = ap (λ (t : KernelState). t.entries) opening
 
-  pub are-ready : (row : List CallerSeen) → AreNumbered k 1 row → AreFresh row → length row ≡ length s.entries → AreBlocksReady k plan.lines row 1
-  are-ready row numbered fresh count =
+  pub are-ready : (callers : List CallerSeen) → AreNumbered k 1 callers → AreFresh callers → length callers ≡ length s.entries → AreBlocksReady k plan.lines callers 1
+  are-ready callers numbered fresh count =
       let few = st.blocks in
       let same = st.count in
       record {
         numbered = numbered;
         fresh = fresh;
-        blocks = subst (λ (n : ℕ). AreProcessBlocks (tree k) 1 plan.lines n) (let z : length plan.parents + 1 ≡ 1 + length row = omega (arith, count, same) in z)
+        blocks = subst (λ (n : ℕ). AreProcessBlocks (tree k) 1 plan.lines n) (let z : length plan.parents + 1 ≡ 1 + length callers = omega (arith, count, same) in z)
             (subst (λ (ps : List ℕ). AreProcessBlocks ps 1 plan.lines (length plan.parents + 1)) (sym same-tree) may.sound.nests);
         few = omega (arith, count, same, few);
         some = omega arith;
         fit = record {
           room = λ q. subst (λ (rs : List ℕ). entry_count (own_lines plan q) ≤ room_of rs q) (sym same-rooms) (st.rooms.each q);
-          acts = fit-all plan.lines (all-served plan may) may.sound.acts;
+          acts = fit-all plan.lines may.sound.acts;
         };
       }
 
@@ -166,19 +123,7 @@ module _ (plan : PlanSeen) (F : Flat) (disks : List (ℕ × DiskSeen)) (swap : O
   pub played-blocks : (t : KernelState) (whole : Bool) → IsSinceOpening k.opening t (replicate k.seats None) → (whole ≡ true → Told plan t.history) → ToldFront plan t.history
       → HasPlayed plan s t whole
   played-blocks t whole still told front =
-      let since : IsSince s t no_seats = subst (λ (o : KernelState). IsSince o t no_seats) opening (subst (IsSince k.opening t) (event_law.none k.seats) still) in
-      let fits = since.fits F st.fits in
-      let same : t.entries ≡ s.entries = ap (λ (f : Fixed). f.entries) since.fixed in
-      let made : (p : ℕ) → length (entries_of t.history p) ≤ room_of s.entries p = λ p. subst (λ (rs : List ℕ). length (entries_of t.history p) ≤ room_of rs p) same (fits.rooms.made p) in
-      let most = few-entries t.history s.entries made in
-      let few = st.rooms.all in
-      record {
-        since = since;
-        told = told;
-        front = front;
-        formed = all-formed plan t.history (all-served plan may) may.sound.acts front;
-        few = omega (arith, most, few);
-      }
+      played-since plan F disks swap files s t whole st may (subst (λ (o : KernelState). IsSince o t no_seats) opening (subst (IsSince k.opening t) (event_law.none k.seats) still)) told front
 
 -- THE CALLERS AT THE CLOSE
 pub all-callers : (k : KernelSeen) (n : ℕ) (row : List CallerSeen) (last : CallerSeen) → AreNumbered k n row → IsClock k last → All (λ (it : CallerSeen). IsCallerOf k it) (row ++ last ∷ [])

@@ -1,6 +1,6 @@
 -- A run's end once its last line was printed, or memory lacked for the line.
 use Rattle.std.proofs.Common.{◌≡◌, ◌⊎◌, ℕ, ◌+◌, ◌≤◌, List, [], ◌++◌, refl, sym, ap, ◌∙◌, subst, arith, inl, inr}
-use Rattle.std.specs.Prelude.{Bool, Option, None}
+use Rattle.std.specs.Prelude.{Option, None}
 use Rattle.std.proofs.Math.Seq.{take-nil}
 use Rattle.volume_files.specs.block_device.Counts.{HasRisen}
 use Rattle.volume_files.specs.block_device.DiskSeen.{DiskSeen}

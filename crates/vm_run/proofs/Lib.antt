@@ -15,7 +15,7 @@ pub mod GoingOn
 pub mod BlockLines
 pub mod ToldLines
 pub mod Trips
-pub mod Steps
+pub mod Alone
 pub mod Returned
 pub mod FileRecords
 pub mod FileBytesLeft
@@ -31,6 +31,7 @@ pub mod Asking
 pub mod PlayablePlans
 pub mod StartedFiles
 pub mod TracesRead
+pub mod FitLines
 pub mod Histories
 pub mod CallerRooms
 pub mod KernelRows

@@ -1,8 +1,6 @@
 -- A plan that may be played may be played with the numbers of its files.
-use Rattle.std.specs.Prelude.{ℕ, ◌≡◌, ◌<◌, ◌+◌, ◌^◌, ◌||◌, not, Bool, true, false, List, [], ◌∷◌, length, map, if◌then◌else◌}
-use Rattle.std.specs.List.{list_all, list_any}
-use Rattle.std.proofs.lemmas.Bool.{and_parts, and_from, not-false, or_parts as or_false}
-use Rattle.std.proofs.Common.{ap, ◌∙◌, sym, subst, refl, arith}
+use Rattle.std.specs.Prelude.{ℕ, ◌<◌, ◌+◌, ◌^◌, Bool, true, false, List, [], ◌∷◌, length, map, if◌then◌else◌}
+use Rattle.std.proofs.Common.{sym, subst, arith}
 use Rattle.std.proofs.lemmas.List.{map-append, length-map}
 use Rattle.std.proofs.lemmas.List.Elements.{All-map, All-weaker}
 use Rattle.volume_files.specs.vm_types.declared.call.Call.{Call}
@@ -16,43 +14,8 @@ use Rattle.volume_files.specs.vm_script.Blocks.{IsInner, IsProcessBlock, ends, g
 use Rattle.volume_files.specs.vm_script.Fields.{is_word}
 use Rattle.volume_files.specs.vm_script.FileNames.{place_from, call_with_file, act_with_file, line_with_file, with_files}
 use Rattle.volume_files.specs.vm_script.PlanSeen.{PlanSeen}
-use Rattle.volume_files.specs.vm_script.Rules.{is_join}
 use Rattle.volume_files.specs.vm_script.Sound.{IsSoundAct, IsOfNamedFile}
-use Rattle.vm_run.specs.Asked.{is_later, is_served_act, is_served_named}
 use Rattle.vm_run.specs.Played.{IsPlayable}
-
-served-named : (names : List (List ℕ)) (name : List ℕ) (c : Call) → is_served_named c ≡ true → is_served_named (call_with_file names name c) ≡ true
-served-named names name (call.Load a n) h = h
-served-named names name (call.Store a n v) h = h
-served-named names name (call.Map at len prot kind (object.File f) offset) h = refl
-served-named names name (call.Map at len prot kind object.NewZero offset) h = h
-served-named names name (call.Map at len prot kind (object.Zero z) offset) h = h
-served-named names name (call.Unmap a len) h = h
-served-named names name (call.Protect a len prot) h = h
-served-named names name (call.Sync a len) h = h
-served-named names name (call.Read file offset len) h = h
-served-named names name (call.Write file offset bytes rest) h = h
-served-named names name (call.Truncate file len) h = h
-served-named names name (call.Fork child) h = h
-served-named names name call.Exit h = h
-
-served-act : (names : List (List ℕ)) (a : PlanAct) → is_served_act a ≡ true → is_served_act (act_with_file names a) ≡ true
-served-act names (act.Call c) h = h
-served-act names (act.Named name c) h = served-named names name c h
-served-act names (act.Write name file offset bytes) h = h
-served-act names act.Wait h = h
-
-served-all : (names : List (List ℕ)) (lines : List PlanLine) → list_all (λ l. is_served_act l.act) lines ≡ true → list_all (λ l. is_served_act l.act) (map (line_with_file names) lines) ≡ true
-served-all names [] h = refl
-served-all names (l ∷ lines) h =
-    let both = and_parts (is_served_act l.act) (list_all (λ k. is_served_act k.act) lines) h in
-    and_from (is_served_act (act_with_file names l.act)) (list_all (λ k. is_served_act k.act) (map (line_with_file names) lines)) (served-act names l.act both.0) (served-all names lines both.1)
-
-later-named : (names : List (List ℕ)) (plan : PlanSeen) → is_later plan ≡ false → is_later (with_files names plan) ≡ false
-later-named names plan h =
-    let both = or_false (list_any (λ l. is_join l.act) plan.setup) (not (list_all (λ l. is_served_act l.act) plan.lines)) h in
-    let all = served-all names plan.lines (not-false (list_all (λ l. is_served_act l.act) plan.lines) both.1) in
-    ap (λ (t : Bool). t || not (list_all (λ l. is_served_act l.act) (map (line_with_file names) plan.lines))) both.0 ∙ ap not all
 
 -- the blocks nest as before
 inner-named : (names : List (List ℕ)) (a : PlanAct) → IsInner a → IsInner (act_with_file names a)
@@ -124,7 +87,7 @@ sound-act names few act.Wait h = h
 -- a plan that may be played may be played with the numbers of its files
 pub playable-named : (names : List (List ℕ)) (plan : PlanSeen) → length names < 2 ^ 32 → IsPlayable plan → IsPlayable (with_files names plan)
 playable-named names plan few p = record {
-  now = later-named names plan p.now;
+  now = p.now;
   sound = record {
     nests = blocks-named names plan.parents p.sound.nests;
     acts = All-map (λ (l : PlanLine). IsSoundAct l.act) (line_with_file names) plan.lines

@@ -1,7 +1,8 @@
 -- What is left of a kernel that was started and whose lines were made.
-use Rattle.std.proofs.Common.{◌≡◌, ℕ, suc, ◌<◌, ◌≤◌, ◌==◌, eq-eqb, Bool, true, false, List, [], ◌∷◌, length, Option, Some, None, refl, sym, ap, ◌∙◌, inl, inr, subst, arith, take_all, length-append}
+use Rattle.std.proofs.Common.{◌≡◌, ◌⊎◌, ℕ, suc, Bool, true, false, List, [], ◌∷◌, length, Option, Some, None, refl, sym, ap, ◌∙◌, inl, inr, subst, arith, length-append}
 use Rattle.std.specs.Prelude.{All, IsTrue, MatchOption, option_map}
 use Rattle.std.proofs.lemmas.List.Elements.{All-nil}
+use mathlib.Core.List.{IsPrefix}
 use Rattle.volume_files.specs.block_device.DiskSeen.{DiskSeen}
 use Rattle.vm_core.specs.page_store.Bays.{BaySeen, missing, home}
 use Rattle.volume_files.specs.vm_types.declared.call.Entry.{Entry}
@@ -10,43 +11,51 @@ use Rattle.volume_files.specs.vnode_files.Files.{FilesSeen}
 use Rattle.volume_files.specs.flat_model.Counted.{Counted}
 use Rattle.volume_files.specs.flat_model.Flat.{Flat}
 use Rattle.volume_files.specs.flat_model.Shapes.{RefusesAsDue}
+use Rattle.volume_files.specs.flat_model.Told.{entries_of}
 use Rattle.vm_core.specs.Finish.{FitsStill, disks_of}
-use Rattle.volume_files.specs.vm_script.Counts.{entry_count}
+use Rattle.volume_files.specs.vm_script.Blocks.{IsProcessBlock}
 use Rattle.volume_files.specs.vm_script.declared.plan.PlanLine.{PlanLine}
 use Rattle.volume_files.specs.vm_script.PlanSeen.{PlanSeen}
-use Rattle.volume_files.specs.vm_script.Told.{ToldFront, own_lines}
-use Rattle.vm_core.specs.vm_world.Events.{IsSince}
+use Rattle.volume_files.specs.vm_script.Told.{Spell, ToldFront, own_lines, parent_of}
+use Rattle.vm_core.specs.vm_world.Events.{IsEvent, IsSince}
 use Rattle.vm_core.proofs.vm_world.Told.{event_law}
 use Rattle.vm_core.proofs.vm_world.StateSteps.{same-seats}
 use Rattle.vm_core.specs.vm_world.Opening.{no_seats}
-use Rattle.vm_core.specs.vm_world.State.{KernelState, is_top, room_of}
+use Rattle.vm_core.specs.vm_world.State.{KernelState}
 use Rattle.vm_core.specs.vm_world.StateFits.{StateFits}
-use Rattle.vm_run.specs.Lines.{HasCome, is_alone, line_calls}
+use Rattle.block_runs.specs.Conditions.{AreFit}
+use Rattle.block_runs.specs.Rows.{IsOnWay}
+use Rattle.block_runs.proofs.Goings.{top_begins}
+use Rattle.vm_run.specs.Lines.{AreOfOne, alone_caller, alone_kernel, is_alone}
 use Rattle.vm_run.specs.Played.{HasPlayed, IsStarted, KernelLeaves, IsPlayable, LeftSeen}
 use Rattle.volume_files.specs.Written.{HaveDisks}
-use Rattle.vm_run.proofs.BlockLines.{entries-of-lines, plays-one}
+use Rattle.vm_run.proofs.Alone.{alone-is}
+use Rattle.vm_run.proofs.BlockLines.{plays-one}
 use Rattle.vm_run.proofs.FileBytesLeft.{stored-left}
+use Rattle.vm_run.proofs.FitLines.{fit-all}
+use Rattle.vm_run.proofs.KernelRows.{played-since}
 use Rattle.vm_run.proofs.FileRecords.{extents-left, infos-left, legal-left, lie-left, modes-left, told-left}
 use Rattle.vm_run.proofs.Returned.{Closes, counts-left, disks-left, fault-left, have-left, reached-left, swap-left}
-use Rattle.vm_run.proofs.Steps.{few-made, formed-entries}
-use Rattle.vm_run.proofs.ToldLines.{all-pass, front-told, whole-told}
+use Rattle.vm_run.proofs.ToldLines.{front-told, whole-told}
 
--- the process is there, where there are lines
-pub started-top : (plan : PlanSeen) (F : Flat) (disks : List (ℕ × DiskSeen)) (swap : Option DiskSeen) (files : FilesSeen) (s : KernelState) → IsPlayable plan → is_alone plan ≡ true
-    → IsStarted plan F disks swap files s → 0 < length plan.lines → IsTrue (is_top s.parents 1)
-started-top plan F disks swap files s may alone st some = elim (plays-one plan may alone).blocks [
-  | inl none ↦ absurd (let z : length plan.lines ≡ 0 = ap (λ (ls : List PlanLine). length ls) none.1 in omega (arith, z, some))
-  | inr one ↦ subst (λ (ps : List ℕ). IsTrue (is_top ps 1)) (sym (st.parents ∙ one)) refl
+-- THE ONE BLOCK may be run
+pub alone-ready : (plan : PlanSeen) (F : Flat) (disks : List (ℕ × DiskSeen)) (swap : Option DiskSeen) (files : FilesSeen) (s : KernelState) → IsPlayable plan → is_alone plan ≡ true
+    → IsStarted plan F disks swap files s → (plan.lines ≡ []) ⊎ IsOnWay (alone_kernel s) plan.lines (alone_caller s []) [] 2
+alone-ready plan F disks swap files s may alone st = elim (plays-one plan may alone).blocks [
+  | inl none ↦ inl none.1
+  | inr one ↦
+      let fit : AreFit (alone_kernel s) plan.lines = record { room = st.rooms.each; acts = fit-all plan.lines may.sound.acts } in
+      inr (record {
+        caller = alone-is s [];
+        numbered = tt;
+        fresh = tt;
+        block = subst (λ (ps : List ℕ). IsProcessBlock ps 1 2 plan.lines 2) (sym st.parents) one.1;
+        few = omega arith;
+        below = omega arith;
+        fit = fit;
+        may = top_begins (alone_kernel s) 1 [] 2 plan.lines (ap (λ (ps : List ℕ). parent_of ps 1) (st.parents ∙ one.0)) refl fit;
+      })
 ]
-
-pub started-room : (plan : PlanSeen) (F : Flat) (disks : List (ℕ × DiskSeen)) (swap : Option DiskSeen) (files : FilesSeen) (s : KernelState) → IsPlayable plan → is_alone plan ≡ true
-    → IsStarted plan F disks swap files s → length plan.lines ≤ room_of s.entries 1
-started-room plan F disks swap files s may alone st =
-    let p = plays-one plan may alone in
-    let own : own_lines plan 1 ≡ plan.lines = all-pass (λ (l : PlanLine). l.process == 1) plan.lines (λ i d lt. eq-eqb _ 1 (p.own i d lt)) in
-    let count : entry_count (own_lines plan 1) ≡ length plan.lines = ap entry_count own ∙ entries-of-lines plan.lines p.served in
-    let room = st.rooms.each 1 in
-    omega (arith, count, room)
 
 -- nothing was told yet
 nothing-told : (plan : PlanSeen) → ToldFront plan []
@@ -75,21 +84,15 @@ played-none plan F disks swap files s st = record {
 }
 
 -- where the one block ran
-pub played-alone : (plan : PlanSeen) (F : Flat) (disks : List (ℕ × DiskSeen)) (swap : Option DiskSeen) (files : FilesSeen) (n : ℕ) (s t : KernelState) (whole : Bool) → IsPlayable plan → is_alone plan ≡ true
-    → IsStarted plan F disks swap files s → HasCome plan.lines n s t → (IsTrue whole → HasCome plan.lines (length plan.lines) s t) → HasPlayed plan s t whole
-played-alone plan F disks swap files n s t whole may alone st come all =
+pub played-alone : (plan : PlanSeen) (F : Flat) (disks : List (ℕ × DiskSeen)) (swap : Option DiskSeen) (files : FilesSeen) (s t : KernelState) (whole : Bool) → IsPlayable plan → is_alone plan ≡ true
+    → IsStarted plan F disks swap files s → IsEvent 0 s None t None → AreOfOne t.history → (made : List PlanLine) × IsPrefix made (own_lines plan 1) × Spell made (entries_of t.history 1)
+    → (IsTrue whole → Spell (own_lines plan 1) (entries_of t.history 1)) → HasPlayed plan s t whole
+played-alone plan F disks swap files s t whole may alone st event mine front all =
     let one = plays-one plan may alone in
-    record {
-      since = subst (IsSince s t) (same-seats no_seats 0 None refl) (event_law.since s s t no_seats 0 None None (event_law.opens s (F, st.fits)) refl come.event);
-      told = λ is. let c = all is in whole-told plan t.history one (c.made ∙ take_all (length plan.lines) (line_calls plan.lines) (lines-long plan.lines)) c.own;
-      front = front-told plan n t.history one come.made come.own;
-      formed = formed-entries plan.lines n s t one.lines come;
-      few = let most = few-made plan.lines n s t come in let lines = may.sound.few_lines in omega (arith, most, lines);
-    }
-  where
-    lines-long : (lines : List PlanLine) → length (line_calls lines) ≤ length lines
-    lines-long [] = omega arith
-    lines-long (l ∷ lines) = let rest = lines-long lines in omega (arith, rest)
+    played-since plan F disks swap files s t whole st may
+    (subst (IsSince s t) (same-seats no_seats 0 None refl) (event_law.since s s t no_seats 0 None None (event_law.opens s (F, st.fits)) refl event))
+    (λ is. whole-told plan t.history one (all is) mine)
+    (front-told plan front.0 t.history one front.1 front.2 mine)
 
 pub played-still : (plan : PlanSeen) (F : Flat) (disks : List (ℕ × DiskSeen)) (swap : Option DiskSeen) (files : FilesSeen) (s t : KernelState) (whole : Bool) → IsStarted plan F disks swap files s
     → HasPlayed plan s t whole → FitsStill t

@@ -1,13 +1,11 @@
 -- The text up to the place of a page is a front of that of all files.
-use Rattle.std.proofs.Common.{◌≡◌, ℕ, zero, suc, ◌+◌, ◌*◌, ◌<◌, List, [], ◌∷◌, ◌++◌, length, take, sym, ap, ◌∙◌, subst, arith, append_assoc}
-use Rattle.volume_files.specs.block_device.StreamSeen.{SinkSeen}
+use Rattle.std.proofs.Common.{◌≡◌, ℕ, zero, suc, ◌+◌, ◌*◌, ◌<◌, List, [], ◌∷◌, ◌++◌, length, take, sym, ap, ◌∙◌, arith, append_assoc}
 use Rattle.volume_files.specs.vnode_files.declared.vnode.FileInfo.{FileInfo}
 use Rattle.volume_files.specs.vm_report.Report.{file_lines}
 use Rattle.volume_files.specs.declared.showing.Heading.{Heading}
 use Rattle.volume_files.specs.Closed.{info_at}
-use Rattle.volume_files.specs.Texts.{Wrote, WroteAndFront, file_section, file_sections, files_from, heading_text, sections_before}
+use Rattle.volume_files.specs.Texts.{file_section, file_sections, files_from, heading_text, sections_before}
 use Rattle.volume_files.proofs.ShownLines.{lines_from}
-use Rattle.vm_run.proofs.Sinks.{goes_on}
 
 section-front : (heading : Heading) (k : ℕ) (info : FileInfo) (bytes : List ℕ) (page : ℕ)
     → (rest : List ℕ) × (file_section heading k info bytes ≡ file_section heading k info (take (4096 * page) bytes) ++ rest)

@@ -1,11 +1,11 @@
 -- The source's bytes as a trace: what is answered to the bytes that were read is the answer to all of them.
-use Rattle.std.proofs.Common.{◌≡◌, ◌∙◌, ℕ, ◌≤◌, ◌<◌, ◌+◌, List, [], ◌++◌, length, Option, Some, None, refl, sym, ap, subst, append-nil, length-append, arith}
-use Rattle.std.specs.Prelude.{IfSome, option_map}
+use Rattle.std.proofs.Common.{◌≡◌, ◌∙◌, ℕ, ◌≤◌, ◌<◌, List, [], ◌++◌, length, Option, Some, None, refl, sym, ap, subst, append-nil, length-append, arith}
+use Rattle.std.specs.Prelude.{IfSome}
 use Rattle.std.proofs.lemmas.Option.{same_Some}
 use Rattle.volume_files.specs.block_device.StreamSeen.{Came}
 use Rattle.vm_run.specs.declared.ending.TraceAnswer.{TraceAnswer}
 use Rattle.vm_run.specs.declared.ending.TraceAnswer.TheVariants as answer
-use Rattle.vm_run.specs.TraceChecks.{AnswersText, KeepsAnswers, most_trace_bytes}
+use Rattle.vm_run.specs.TraceChecks.{AnswersText, KeepsAnswers}
 
 module _ (told bytes more : List ℕ) (is : told ≡ bytes ++ more) (ended : length bytes < 16777217 → more ≡ []) where
   all-read : length bytes ≤ 16777216 → told ≡ bytes

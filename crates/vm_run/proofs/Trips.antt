@@ -30,11 +30,11 @@ pub grows-as : (of : Option Caller) (answer : Option Reply) (s t u : KernelState
 grows-as None None s t u same ends = ends.none.history ∙ same
 grows-as None (Some reply) s t u same ends = absurd ends
 grows-as (Some of) None s t u same ends = ends.none.history ∙ same
-grows-as (Some of) (Some reply) s t u same ends = (reply, t.pending, ends.history ∙ ap (λ (H : List Entry). H ++ record { process = of.0; call = of.1; reply = reply; cleared = t.pending } ∷ []) same)
+grows-as (Some of) (Some reply) s t u same ends = (t.pending, ends.history ∙ ap (λ (H : List Entry). H ++ record { process = of.0; call = of.1; reply = reply; cleared = t.pending } ∷ []) same)
 
 -- an entry more, behind what made none
-pub one-more-as : (s t u : KernelState) (p : ℕ) (call : Call) → t.history ≡ s.history → HasOneMore t u p call → HasOneMore s u p call
-one-more-as s t u p call same more = (more.0, more.1, more.2 ∙ ap (λ (H : List Entry). H ++ record { process = p; call = call; reply = more.0; cleared = more.1 } ∷ []) same)
+pub one-more-as : (s t u : KernelState) (p : ℕ) (call : Call) (reply : Reply) → t.history ≡ s.history → HasOneMore t u p call reply → HasOneMore s u p call reply
+one-more-as s t u p call reply same more = (more.0, more.1 ∙ ap (λ (H : List Entry). H ++ record { process = p; call = call; reply = reply; cleared = more.0 } ∷ []) same)
 
 -- the plan of seat 0 that is kept for this process and call
 abbrev pub kept_for : Plan → Option Caller → KeptPlan

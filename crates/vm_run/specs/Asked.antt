@@ -1,15 +1,11 @@
 -- What a run is asked to do, by its words and by the script or the number of a generated one. Public clauses cite this.
-use Rattle.std.specs.Prelude.{ℕ, not, ◌||◌, Bool, true, false, List, ◌≡◌, ◌⊎◌, Option, Some, None, IfSome, option_map, Result, Ok, Err, if◌then◌else◌}
-use Rattle.std.specs.List.{list_all, list_any}
-use Rattle.volume_files.specs.vm_types.declared.call.Call.{Call}
-use Rattle.volume_files.specs.vm_types.declared.call.Call.TheVariants as call
+use Rattle.std.specs.Prelude.{ℕ, Bool, true, false, List, ◌≡◌, ◌⊎◌, Option, Some, None, IfSome, option_map, Result, Ok, Err, if◌then◌else◌}
+use Rattle.std.specs.List.{list_any}
 use Rattle.volume_files.specs.block_device.Counts.{HasRisen}
 use Rattle.volume_files.specs.block_device.RackSeen.{RackSeen}
 use Rattle.volume_files.specs.block_device.StreamSeen.{SourceSeen}
 use Rattle.volume_files.specs.block_device.declared.rack.Spec.{Spec}
 use Rattle.volume_files.specs.vm_script.declared.fault.ScriptFault.{ScriptFault}
-use Rattle.volume_files.specs.vm_script.declared.plan.PlanAct.{PlanAct}
-use Rattle.volume_files.specs.vm_script.declared.plan.PlanAct.TheVariants as act
 use Rattle.volume_files.specs.vm_script.Generated.{generated_text}
 use Rattle.volume_files.specs.vm_script.PlanSeen.{PlanSeen}
 use Rattle.volume_files.specs.vm_script.Plans.{plan_of}
@@ -35,32 +31,9 @@ pub record Asked : Type 0 where
   pub options : Options
   pub plan : PlanSeen
 
--- The calls that are served so far: loads, stores, map, unmap, protect, sync, the fork, and the exit.
-abbrev pub is_served_call : Call → Bool
-is_served_call (call.Load a n) = true
-is_served_call (call.Store a n v) = true
-is_served_call (call.Map place len prot kind o offset) = true
-is_served_call (call.Unmap a len) = true
-is_served_call (call.Protect a len prot) = true
-is_served_call (call.Sync a len) = true
-is_served_call (call.Fork child) = true
-is_served_call call.Exit = true
-is_served_call c = false
-
--- Those of a line that names a file: the mapping alone.
-abbrev pub is_served_named : Call → Bool
-is_served_named (call.Map place len prot kind o offset) = true
-is_served_named c = false
-
-abbrev pub is_served_act : PlanAct → Bool
-is_served_act (act.Call c) = is_served_call c
-is_served_act (act.Named name c) = is_served_named c
-is_served_act act.Wait = true
-is_served_act a = false
-
--- The script joins disks, or has a line whose call isn't served yet.
+-- The script joins disks, which isn't served yet.
 abbrev pub is_later : PlanSeen → Bool
-is_later plan = list_any (λ l. is_join l.act) plan.setup || not (list_all (λ l. is_served_act l.act) plan.lines)
+is_later plan = list_any (λ l. is_join l.act) plan.setup
 
 -- The plan may be run, as far as it alone tells; or the rule that it breaks.
 abbrev pub by_rules : Options → PlanSeen → Option ℕ → Result Asked Ending

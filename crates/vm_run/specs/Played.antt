@@ -15,6 +15,7 @@ use Rattle.vm_core.specs.declared.finish.Finished.{Finished}
 use Rattle.vm_core.specs.Finish.{HistorySeen, disks_of}
 use Rattle.volume_files.specs.vm_script.Counts.{entry_count}
 use Rattle.volume_files.specs.vm_script.PlanSeen.{PlanSeen}
+use Rattle.volume_files.specs.vm_script.Processes.{kernel_parents}
 use Rattle.volume_files.specs.vm_script.Told.{Told, ToldFront, own_lines}
 use Rattle.volume_files.specs.flat_model.Shapes.{RefusesAsDue}
 use Rattle.vm_core.specs.vm_world.DiskPlaces.{disk_fixed, seen_in}
@@ -49,11 +50,11 @@ pub record IsStarted (plan : PlanSeen) (F : Flat) (disks : List (ℕ × DiskSeen
   pub opening : IsOpening s
   pub fits : StateFits F s no_seats
   pub follows : FollowsHistory F s
-  pub parents : s.parents ≡ plan.parents
+  pub parents : s.parents ≡ kernel_parents plan
   pub rooms : HasRoomForPlan plan s.entries
-  pub blocks : length plan.parents ≤ 64
-  pub count : length s.entries ≡ length plan.parents
-  pub seats : length s.syncs ≡ length plan.parents + 1
+  pub blocks : length (kernel_parents plan) ≤ 64
+  pub count : length s.entries ≡ length (kernel_parents plan)
+  pub seats : length s.syncs ≡ length (kernel_parents plan) + 1
   pub racked : disks_of s.memory.world ≡ disks
   pub swapped : bay_at s.memory.world.store.bays 8 ≡ bay_of swap
   pub placed : s.memory.world.files ≡ files
@@ -128,7 +129,7 @@ pub record KernelLeaves (F : Flat) (s : KernelState) (l : LeftSeen) : Type 0 whe
   pub swap : SwapCameBack (bay_at s.memory.world.store.bays 8) l.swap
   pub tells : HaveTold (bare_disks l.disks) l.swap → AllTell s.memory.world no_notes
 
--- A plan whose lines the kernel can make: each a call that is served and well formed, in blocks that nest.
+-- A plan whose lines the kernel can make: it joins no disks, and each of its lines is sound, in blocks that nest.
 pub record IsPlayable (plan : PlanSeen) : Type 0 where
   pub now : is_later plan ≡ false
   pub sound : IsSoundPlan plan

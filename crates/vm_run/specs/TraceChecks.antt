@@ -1,16 +1,14 @@
 -- How a trace was checked in place of a script. Public clauses cite this.
-use Rattle.std.specs.Prelude.{ℕ, ◌≡◌, ◌≤◌, ◌<◌, true, List, [], length, Option, Some, None, IfSome, Ok, Err}
+use Rattle.std.specs.Prelude.{ℕ, ◌≡◌, ◌≤◌, ◌<◌, true, List, [], length, Option, Some, IfSome, Ok, Err}
 use Rattle.volume_files.specs.block_device.Counts.{HasRisen}
 use Rattle.volume_files.specs.block_device.StreamSeen.{SinkSeen}
 use Rattle.trace_check.specs.Checks.{IsChecked}
-use Rattle.trace_check.specs.declared.verdict.Verdict.{Verdict}
 use Rattle.command_line.specs.declared.options.Options.{Options}
 use Rattle.command_line.specs.Options.{options_of}
 use Rattle.vm_run.specs.declared.ending.Ending.{Ending}
 use Rattle.vm_run.specs.declared.ending.Ending.TheVariants as ending
 use Rattle.vm_run.specs.declared.ending.TraceAnswer.{TraceAnswer}
 use Rattle.vm_run.specs.declared.ending.TraceAnswer.TheVariants as answer
-use Rattle.vm_run.specs.declared.ending.TraceEnd.{TraceEnd}
 use Rattle.vm_run.specs.declared.ending.TraceEnd.TheVariants as ends
 use Rattle.vm_run.specs.Asked.{Given}
 use Rattle.vm_run.specs.Ending.{answer_text}

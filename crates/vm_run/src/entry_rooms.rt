@@ -2,6 +2,7 @@
 ghost use Rattle.std.specs.Prelude.{ℕ, ◌≡◌, ◌<◌, ◌≤◌, ◌+◌, ◌-◌, ◌^◌, length, slice_index, slice_set, IfOk};
 ghost use Rattle.volume_files.specs.vm_script.Blocks.{Nests};
 ghost use Rattle.volume_files.specs.vm_script.Counts.{parts, entry_count};
+ghost use Rattle.volume_files.specs.vm_script.Processes.{kernel_parents};
 ghost use Rattle.vm_run.specs.Played.{HasRoomForPlan};
 
 use std::alloc::{AllocError, Global};
@@ -26,11 +27,12 @@ fn add_line(rooms: &mut Vec<u32>, line: &PlanLine)
 pub fn entry_rooms(alloc: Global, plan: &Plan) -> Result<Vec<u32>, AllocError>
     requires nests { Nests plan.now }
     requires few { entry_count plan.now.lines ≤ 1048576 }
-    ensures count { IfOk result (λ rooms. length rooms.items ≡ length plan.now.parents) }
+    ensures count { IfOk result (λ rooms.
+        length rooms.items ≡ length (kernel_parents plan.now)) }
     ensures rooms { IfOk result (λ rooms. HasRoomForPlan plan.now rooms.items) }
 {
     let lines = plan.lines();
-    let mut rooms = vec![in alloc; 0u32; plan.parents().len()]?;
+    let mut rooms = vec![in alloc; 0u32; plan.kernel_parents().len()]?;
     for line in lines {
         add_line(&mut rooms, line);
     }

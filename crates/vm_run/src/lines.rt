@@ -1,46 +1,95 @@
-//! The lines of the one process.
-ghost use Rattle.std.specs.Prelude.{◌≡◌, ◌<◌, ◌≤◌, ℕ, suc, [], length, take, IsTrue, OnOk, OnErr};
+//! The lines of a plan of one block, made on the kernel itself.
+ghost use Rattle.std.specs.Prelude.{◌≡◌, ◌⊎◌, [], ◌∷◌, List, All, OnOk, OnErr};
+ghost use mathlib.Core.List.{IsPrefix};
+ghost use Rattle.volume_files.specs.flat_model.Told.{entries_of};
+ghost use Rattle.volume_files.specs.vm_script.declared.plan.PlanLine.{PlanLine};
+ghost use Rattle.volume_files.specs.vm_script.Told.{Spell};
 ghost use Rattle.vm_core.specs.Finish.{FitsStill};
 ghost use Rattle.vm_core.specs.vm_world.Events.{IsEvent};
-ghost use Rattle.vm_core.specs.vm_world.State.{is_top, room_of};
-ghost use Rattle.vm_run.specs.Lines.{is_plain_act, line_call, MayBeMade, AreLines, MayGoOn, HasOneMore, HasCome};
+ghost use Rattle.block_runs.specs.Conditions.{MayMakeLine};
+ghost use Rattle.block_runs.specs.Lines.{IsCallLine, own_of};
+ghost use Rattle.block_runs.specs.Parts.{MakesParts, MayMakeParts};
+ghost use Rattle.block_runs.specs.Rows.{IsOnWay, MakesLine};
+ghost use Rattle.vm_run.specs.Lines.{alone_caller, alone_kernel, AreOfOne};
 
 use crate::making::make_call;
+use block_runs::{bytes_in, cut_write};
 use std::alloc::AllocError;
 use std::sync::Wait;
 use vm_core::VmState;
+use vm_types::next_part;
 use volume_files::{Call, Disk, PlanAct, PlanLine};
 
-// The call of a line that makes one.
-fn call_of(act: &PlanAct) -> &Call
-    requires { IsTrue (is_plain_act act.now) }
-    ensures { result.now ≡ line_call act.now }
+// Makes a call to its end, a read or a write part by part. `bytes` are those of a write that are still to come.
+fn make_parts<D: Disk>(
+    rt: &impl Wait,
+    state: &mut VmState<D>,
+    call: &Call,
+    bytes: &[u8],
+) -> Result<(), AllocError>
+    requires still { FitsStill state.old }
+    requires alone { AreOfOne state.old.history }
+    requires may { MayMakeParts (alone_kernel state.old)
+        (alone_caller state.old state.old.history) call.now bytes.now }
+    // The entries of the call's parts are those that came.
+    ensures event { IsEvent 0 state.old None state.new None }
+    ensures alone { AreOfOne state.new.history }
+    ensures made { OnOk result (MakesParts (alone_caller state.old state.old.history)
+        (alone_caller state.old state.new.history) call.now bytes.now) }
+    ensures err { OnErr result (state.new.history ≡ state.old.history) }
 {
-    match act {
-        PlanAct::Call(call) => call,
-        PlanAct::Named { call, .. } => call,
-        _ => unreachable!(),
+    let mut call = *call;
+    let mut left = bytes;
+    for _ in rt.forever() {
+        let reply = make_call(rt, state, &call)?;
+        let Some(next) = next_part(&call, &reply, left) else {
+            return Ok(());
+        };
+        let (_, behind) = left.split_at(bytes_in(&next));
+        left = behind;
+        call = next;
     }
+    unreachable!()
 }
 
-// Makes the call of a line.
+// Makes a line.
 fn make_line<D: Disk>(
     rt: &impl Wait,
     state: &mut VmState<D>,
     line: &PlanLine,
 ) -> Result<(), AllocError>
     requires still { FitsStill state.old }
-    requires may { MayGoOn state.old }
-    requires line { MayBeMade line.now }
-    // The call's entry is the one that came.
+    requires alone { AreOfOne state.old.history }
+    requires line { IsCallLine line.now.act }
+    requires may { MayMakeLine (alone_kernel state.old)
+        (alone_caller state.old state.old.history) line.now }
+    // The line's entries are those that came.
     ensures event { IsEvent 0 state.old None state.new None }
-    ensures made { OnOk result (HasOneMore state.old state.new 1 (line_call line.now.act)) }
+    ensures alone { AreOfOne state.new.history }
+    ensures made { OnOk result (MakesLine (alone_caller state.old state.old.history)
+        (alone_caller state.old state.new.history) line.now) }
     ensures err { OnErr result (state.new.history ≡ state.old.history) }
 {
-    make_call(rt, state, call_of(&line.act))
+    match &line.act {
+        PlanAct::Call(call) => {
+            make_call(rt, state, call)?;
+            Ok(())
+        }
+        PlanAct::Named { call, .. } => make_parts(rt, state, call, &[]),
+        PlanAct::Write {
+            file,
+            offset,
+            bytes,
+            ..
+        } => {
+            let (first, behind) = cut_write(*file, *offset, bytes.bytes());
+            make_parts(rt, state, &first, behind)
+        }
+        PlanAct::Wait => unreachable!(),
+    }
 }
 
-/// Makes lines of process 1. The error is want of memory: no line behind is made then.
+/// Makes the lines of process 1. The error is want of memory: no line behind is made then.
 pub fn make_lines<D: Disk>(
     rt: &impl Wait,
     state: &mut VmState<D>,
@@ -48,14 +97,15 @@ pub fn make_lines<D: Disk>(
 ) -> Result<(), AllocError>
     requires still { FitsStill state.old }
     requires none { state.old.history ≡ [] }
-    requires lines { AreLines lines.now }
-    // The process is there, where there are lines, and may make them.
-    requires top { 0 < length lines.now → IsTrue (is_top state.old.parents 1) }
-    requires seated { 0 < length state.old.syncs }
-    requires room { length lines.now ≤ room_of state.old.entries 1 }
-    // Some of the lines were made, and on Ok all.
-    ensures come { (n : ℕ) × (n ≤ length lines.now) × HasCome lines.now n state.old state.new }
-    ensures all { OnOk result (HasCome lines.now (length lines.now) state.old state.new) }
+    requires plain { All (λ (l : PlanLine). IsCallLine l.act) lines.now }
+    requires ready { (lines.now ≡ [])
+        ⊎ IsOnWay (alone_kernel state.old) lines.now (alone_caller state.old []) [] 2 }
+    // A front of the lines was made, and on Ok all.
+    ensures event { IsEvent 0 state.old None state.new None }
+    ensures alone { AreOfOne state.new.history }
+    ensures front { (made : List PlanLine) × IsPrefix made (own_of 1 lines.now)
+        × Spell made (entries_of state.new.history 1) }
+    ensures all { OnOk result (Spell (own_of 1 lines.now) (entries_of state.new.history 1)) }
 {
     for line in lines {
         make_line(rt, state, line)?;

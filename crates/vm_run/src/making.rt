@@ -1,10 +1,10 @@
 //! One call of the one process, made on the kernel with the transfers that it needs.
-ghost use Rattle.std.specs.Prelude.{◌≡◌, ◌<◌, ℕ, length, Some, None, option_map, OnOk, OnErr};
-ghost use Rattle.volume_files.specs.vm_types.WellFormed.{IsWellFormed};
-ghost use Rattle.vm_core.specs.Calls.{IsOnOwnSpace};
+ghost use Rattle.std.specs.Prelude.{◌≡◌, ◌<◌, ℕ, length, Some, None, option_map, IfOk, OnErr};
 ghost use Rattle.vm_core.specs.Finish.{FitsStill};
+ghost use Rattle.vm_core.specs.Calls.{TakesMemory};
 ghost use Rattle.vm_core.specs.vm_world.Events.{IsEvent};
-ghost use Rattle.vm_run.specs.Lines.{MayGoOn, HasOneMore, GrowsWith};
+ghost use Rattle.vm_kernel.specs.Turns.{MayCall};
+ghost use Rattle.vm_run.specs.Lines.{alone_caller, alone_kernel, AreOfOne, HasOneMore, GrowsWith};
 
 use std::alloc::AllocError;
 use std::sync::Wait;
@@ -32,27 +32,30 @@ pub fn transfer<D: Disk>(
     state.end(0, flight, of)
 }
 
-/// Makes a call of process 1 to its end. The error is want of memory; no entry is made then.
+/// Makes a call of process 1 to its end. The error is want of memory; no entry is made then. Inline, so that a reply that nobody
+/// reads isn't moved.
+#[inline(always)]
 pub fn make_call<D: Disk>(
     rt: &impl Wait,
     state: &mut VmState<D>,
     call: &Call,
-) -> Result<(), AllocError>
+) -> Result<Reply, AllocError>
     requires still { FitsStill state.old }
-    requires may { MayGoOn state.old }
-    requires served { IsOnOwnSpace call.now }
-    requires formed { IsWellFormed call.now }
+    requires alone { AreOfOne state.old.history }
+    requires may { MayCall (alone_kernel state.old) (alone_caller state.old state.old.history)
+        call.now }
     // The call's entry is the one that came.
     ensures event { IsEvent 0 state.old None state.new None }
-    ensures made { OnOk result (HasOneMore state.old state.new 1 call.now) }
+    ensures made { IfOk result (λ reply. HasOneMore state.old state.new 1 call.now reply) }
+    ensures takes { OnErr result (TakesMemory call.now) }
     ensures err { OnErr result (state.new.history ≡ state.old.history) }
 {
     for _ in rt.forever() {
         match state.try_call(0, 1, call)? {
-            Attempt::Done(_) => return Ok(()),
+            Attempt::Done(reply) => return Ok(reply),
             Attempt::Need(plan) => {
-                if transfer(state, plan, Some((1, call))).is_some() {
-                    return Ok(());
+                if let Some(reply) = transfer(state, plan, Some((1, call))) {
+                    return Ok(reply);
                 }
             }
             Attempt::Busy(_) => unreachable!(),

@@ -25,60 +25,17 @@ pub enum Request {
     Check(TraceAnswer),
 }
 
-// A mapping.
-fn is_served_named(call: &Call) -> bool
-    ensures { result ≡ asked.is_served_named call.now }
-{
-    match call {
-        Call::Map { .. } => true,
-        _ => false,
-    }
-}
-
-fn is_served_call(call: &Call) -> bool
-    ensures { result ≡ asked.is_served_call call.now }
-{
-    match call {
-        Call::Load { .. } => true,
-        Call::Store { .. } => true,
-        Call::Map { .. } => true,
-        Call::Unmap { .. } => true,
-        Call::Protect { .. } => true,
-        Call::Sync { .. } => true,
-        Call::Fork { .. } => true,
-        Call::Exit => true,
-        _ => false,
-    }
-}
-
-fn is_served_act(act: &PlanAct) -> bool
-    ensures { result ≡ asked.is_served_act act.now }
-{
-    match act {
-        PlanAct::Call(call) => is_served_call(call),
-        PlanAct::Named { call, .. } => is_served_named(call),
-        PlanAct::Wait => true,
-        PlanAct::Write { .. } => false,
-    }
-}
-
-fn are_served(lines: &[PlanLine]) -> bool
-    ensures { result ≡ list_all (λ l. asked.is_served_act l.act) lines.now }
-{
-    lines.iter().all(|l| is_served_act(&l.act))
-}
-
 fn joins_disks(setup: &[SetupLine]) -> bool
     ensures { result ≡ list_any (λ l. is_join l.act) setup.now }
 {
     setup.iter().any(|l| matches!(l.act, SetupAct::Join { .. }))
 }
 
-// The script joins disks, or has a line whose call isn't served yet.
+// The script joins disks, which isn't served yet.
 fn is_later(plan: &Plan) -> bool
     ensures { result ≡ asked.is_later plan.now }
 {
-    joins_disks(plan.setup()) || !are_served(plan.lines())
+    joins_disks(plan.setup())
 }
 
 fn is_plain_act(act: &PlanAct) -> bool
@@ -87,7 +44,7 @@ fn is_plain_act(act: &PlanAct) -> bool
     match act {
         PlanAct::Call(Call::Fork { .. }) => false,
         PlanAct::Wait => false,
-        _ => is_served_act(act),
+        _ => true,
     }
 }
 

@@ -3,6 +3,7 @@ ghost use Rattle.std.specs.Prelude.{ℕ, ◌≡◌, ◌≤◌, [], List, Option,
 ghost use Rattle.volume_files.specs.block_device.declared.numbered.NumberedDisk.{NumberedDisk};
 ghost use Rattle.volume_files.specs.block_device.declared.rack.Spec.{Spec};
 ghost use Rattle.volume_files.specs.block_device.DiskSeen.{DiskSeen};
+ghost use Rattle.volume_files.specs.vm_script.Processes.{kernel_parents};
 ghost use Rattle.volume_files.specs.vm_script.Rules.{broken_rule};
 ghost use Rattle.volume_files.specs.vm_script.Sound.{IsSoundPlan};
 ghost use Rattle.volume_files.specs.Attached.{ArePlaced, HasRooms, attached_seen, bare_disks};
@@ -57,15 +58,16 @@ fn take_processes(alloc: Global, plan: &Plan) -> Result<Processes, AllocError>
     requires rules { broken_rule plan.now ≡ None }
     requires sound { IsSoundPlan plan.now }
     // The plan's processes, with room for its entries.
-    ensures parents { IfOk result (λ p. p.parents.items ≡ plan.now.parents) }
-    ensures entries { IfOk result (λ p. length p.entries.items ≡ length plan.now.parents) }
+    ensures parents { IfOk result (λ p. p.parents.items ≡ kernel_parents plan.now) }
+    ensures entries { IfOk result (λ p.
+        length p.entries.items ≡ length (kernel_parents plan.now)) }
     ensures entries_of_plan { IfOk result (λ p. HasRoomForPlan plan.now p.entries.items) }
     // Whom the callers are for.
     ensures rooms { IfOk result (λ p. p.rooms.items ≡ rooms_from 0 p.entries.items) }
 {
     let entries = entry_rooms(alloc, plan)?;
     Ok(Processes {
-        parents: Vec::from_slice(alloc, plan.parents())?,
+        parents: Vec::from_slice(alloc, plan.kernel_parents())?,
         rooms: rooms_of(alloc, &entries)?,
         entries,
     })
@@ -158,7 +160,7 @@ pub fn start<D: Disk>(alloc: Global, plan: &Plan, placed: Placed<D>) -> Result<S
         return Err(without_memory(disks, swap, back));
     };
     let amounts = amounts_of(plan.setup());
-    let seats = plan.parents().len() as u32 + 1;
+    let seats = plan.kernel_parents().len() as u32 + 1;
     let setup = Setup {
         frames: amounts.frames,
         translations: amounts.translations,

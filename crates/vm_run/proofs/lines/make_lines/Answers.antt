@@ -1,31 +1,56 @@
-use Rattle.std.proofs.Common.{◌<◌, sym, subst, arith, length}
-use Rattle.vm_run.specs.Lines.{MayBeMade}
+use Rattle.std.proofs.Common.{◌≡◌, ◌∷◌, ◌+◌, drop, sym, subst, ◌∙◌, ap, refl}
+use Rattle.std.proofs.lemmas.List.{drop_all, drop_more}
+use Rattle.volume_files.specs.vm_script.declared.plan.PlanLine.{PlanLine}
+use Rattle.block_runs.specs.Lines.{IsCallLine}
+use Rattle.vm_run.proofs.Alone.{line-may, lines-all, lines-front, lines-more, lines-start}
 use Rattle.vm_run.proofs.GoingOn.{stays-still}
-use Rattle.vm_run.proofs.Steps.{come-more, come-none, come-still, next-may}
+use Rattle.vm_run.proofs.Trips.{then-too}
+use Rattle.vm_run.proofs.lines.make_lines.Given.{Over}
 use Rattle.vm_run.proofs.lines.make_lines.Goals as goal
+use Rattle.vm_run.proofs.lines.make_lines.Goals.{After-line-item}
 
 pub loop-line-init : goal.loop-line-init
-loop-line-init g c = come-none c.args.lines.now c.args.state.now c.requires.none
+loop-line-init g c = lines-start c.args.state.now c.args.lines.now c.requires.none c.requires.ready
 
 pub make_line-requires-clause-still : goal.make_line-requires-clause-still
 make_line-requires-clause-still g c = stays-still c.args.state.now c.loop-line.state c.loop-line.invariant.event c.requires.still
 
+-- the line that is next
+here : (g : Over) (c : After-line-item g) → IsCallLine c.line-item.result.act
+here g c = subst (λ (l : PlanLine). IsCallLine l.act) (sym c.line-item.is) (c.requires.plain c.loop-line.line-index c.line-item.result c.loop-line-test.true)
+
+next : (g : Over) (c : After-line-item g) → drop c.loop-line.line-index c.args.lines.now ≡ c.line-item.result ∷ drop (c.loop-line.line-index + 1) c.args.lines.now
+next g c =
+    drop_more c.args.lines.now c.loop-line.line-index c.line-item.result c.loop-line-test.true
+    ∙ ap (λ (l : PlanLine). l ∷ drop (c.loop-line.line-index + 1) c.args.lines.now) (sym c.line-item.is)
+
+pub make_line-requires-clause-line : goal.make_line-requires-clause-line
+make_line-requires-clause-line g c = here g (goal.at.make_line-requires-clause-line g c).After-line-item
+
 pub make_line-requires-clause-may : goal.make_line-requires-clause-may
 make_line-requires-clause-may g c =
     let i = c.loop-line.line-index in
-    let below : i < length c.args.lines.now = c.loop-line-test.true in
-    next-may c.args.lines.now i c.args.state.now c.loop-line.state c.requires.lines c.loop-line.invariant below (c.requires.top (omega (arith, below))) c.requires.seated c.requires.room
-
-pub make_line-requires-clause-line : goal.make_line-requires-clause-line
-make_line-requires-clause-line g c = subst MayBeMade (sym c.line-item.is) (c.requires.lines.each c.loop-line.line-index c.line-item.result c.loop-line-test.true)
+    line-may c.args.state.now c.loop-line.state c.args.lines.now (drop i c.args.lines.now) (drop (i + 1) c.args.lines.now) c.line-item.result (next g (goal.at.make_line-requires-clause-may g c).After-line-item) c.loop-line.invariant
 
 pub loop-line-preserved : goal.loop-line-preserved
 loop-line-preserved g c =
-    come-more c.args.lines.now c.loop-line.line-index c.line-item.result c.args.state.now c.loop-line.state c.make_line.new.state c.loop-line-test.true c.line-item.is c.loop-line.invariant
-    c.make_line.ensures.event c.in_ok-make_line.ensures.made
-
-pub returns-in_err-make_line-clause-come : goal.returns-in_err-make_line-clause-come
-returns-in_err-make_line-clause-come g c =
     let i = c.loop-line.line-index in
-    let below : i < length c.args.lines.now = c.loop-line-test.true in
-    (i, omega (arith, below), come-still c.args.lines.now i c.args.state.now c.loop-line.state c.make_line.new.state c.loop-line.invariant c.make_line.ensures.event c.in_err-make_line.ensures.err)
+    let at = (goal.at.loop-line-preserved g c).After-line-item in
+    lines-more c.args.state.now c.loop-line.state c.make_line.new.state c.args.lines.now (drop i c.args.lines.now) (drop (i + 1) c.args.lines.now) c.line-item.result (next g at) c.loop-line.invariant (here g at)
+    c.make_line.ensures.event c.make_line.ensures.alone c.in_ok-make_line.ensures.made
+
+pub returns-in_err-make_line-clause-event : goal.returns-in_err-make_line-clause-event
+returns-in_err-make_line-clause-event g c = then-too c.args.state.now c.loop-line.state c.make_line.new.state c.loop-line.invariant.event c.make_line.ensures.event
+
+pub returns-in_err-make_line-clause-front : goal.returns-in_err-make_line-clause-front
+returns-in_err-make_line-clause-front g c =
+    lines-front c.args.state.now c.loop-line.state c.args.lines.now (drop c.loop-line.line-index c.args.lines.now) c.make_line.new.state.history c.loop-line.invariant c.in_err-make_line.ensures.err
+
+pub returns-clause-front : goal.returns-clause-front
+returns-clause-front g c =
+    lines-front c.args.state.now c.loop-line.state c.args.lines.now (drop c.loop-line.line-index c.args.lines.now) c.loop-line.state.history c.loop-line.invariant refl
+
+pub returns-clause-all : goal.returns-clause-all
+returns-clause-all g c =
+    let i = c.loop-line.line-index in
+    lines-all c.args.state.now c.loop-line.state c.args.lines.now (drop i c.args.lines.now) c.loop-line.invariant (drop_all i c.args.lines.now c.loop-line-test.false)

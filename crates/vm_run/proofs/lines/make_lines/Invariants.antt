@@ -1,5 +1,6 @@
-use Rattle.vm_run.specs.Lines.{HasCome}
+use Rattle.std.proofs.Common.{drop}
+use Rattle.vm_run.proofs.Alone.{AloneLines}
 use Rattle.vm_run.proofs.lines.make_lines.Given as goal
 
 abbrev pub invariant-loop-line : goal.invariant-loop-line
-invariant-loop-line g l = HasCome l.lines l.line-index l.initial.state l.state
+invariant-loop-line g l = AloneLines l.initial.state l.state l.lines (drop l.line-index l.lines)

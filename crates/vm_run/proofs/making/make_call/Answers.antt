@@ -1,9 +1,9 @@
-use Rattle.std.proofs.Common.{None, sym, ◌∙◌, subst}
+use Rattle.std.proofs.Common.{None, subst}
 use Rattle.vm_core.specs.Calls.{AnswersCall}
 use Rattle.vm_core.specs.vm_world.Events.{IsEvent}
 use Rattle.vm_run.specs.Lines.{MadeNothing}
 use Rattle.vm_run.proofs.Attempts.{failed-made, made-nothing, need-none, no-busy}
-use Rattle.vm_run.proofs.GoingOn.{goes-on, may-try, stays-still, still-at}
+use Rattle.vm_run.proofs.GoingOn.{may-now, may-try, stays-still, still-at}
 use Rattle.vm_run.proofs.Trips.{nothing-yet, then-too}
 use Rattle.vm_run.proofs.making.make_call.Given.{Over}
 use Rattle.vm_run.proofs.making.make_call.Goals as goal
@@ -18,7 +18,7 @@ try_call-requires-clause-fits g c = still-at c.loop.state 0 (stays-still c.args.
 pub try_call-requires-clause-may : goal.try_call-requires-clause-may
 try_call-requires-clause-may g c =
     may-try c.loop.state c.args.call.now (stays-still c.args.state.now c.loop.state c.loop.invariant.event c.requires.still)
-    (goes-on c.args.state.now c.loop.state c.loop.invariant.event c.loop.invariant.same c.requires.may) c.requires.served
+    (may-now c.args.state.now c.loop.state c.args.state.now.history c.args.call.now c.loop.invariant.event c.loop.invariant.same c.requires.may)
 
 -- since the begin
 tried : (g : Over) (c : After-try_call g) → IsEvent 0 c.args.state.now None c.try_call.new.self None
@@ -34,23 +34,23 @@ returns-in-Done-clause-event g c = tried g (goal.at.returns-in-Done-clause-event
 needed : (g : Over) (c : After-transfer g) → MadeNothing c.args.state.now c.try_call.new.self
 needed g c =
     need-none c.args.state.now c.loop.state c.try_call.new.self c.args.call.now c.in-Need.plan c.loop.invariant c.try_call.ensures.event
-    (subst (AnswersCall c.loop.state c.try_call.new.self 0 1 c.args.call.now) c.in-Need.is c.in_ok-try_call.ensures.answers)
+    (subst (AnswersCall c.loop.state c.try_call.new.self 0 1 c.args.call.now) c.in-Need.is c.in_ok-reply.ensures.answers)
 
-pub returns-then-is_some-clause-event : goal.returns-then-is_some-clause-event
-returns-then-is_some-clause-event g c =
-    then-too c.args.state.now c.try_call.new.self c.transfer.new.state (needed g (goal.at.returns-then-is_some-clause-event g c).After-transfer).event c.transfer.ensures.event
+pub returns-in-Some-transfer-clause-event : goal.returns-in-Some-transfer-clause-event
+returns-in-Some-transfer-clause-event g c =
+    then-too c.args.state.now c.try_call.new.self c.transfer.new.state (needed g (goal.at.returns-in-Some-transfer-clause-event g c).After-transfer).event c.transfer.ensures.event
 
-pub returns-then-is_some-clause-made : goal.returns-then-is_some-clause-made
-returns-then-is_some-clause-made g c =
-    failed-made c.args.state.now c.try_call.new.self c.transfer.new.state c.args.call.now c.transfer.result (needed g (goal.at.returns-then-is_some-clause-made g c).After-transfer)
-    (sym c.is_some.ensures ∙ c.if-is_some.true) c.transfer.ensures.grows
+pub returns-in-Some-transfer-clause-made : goal.returns-in-Some-transfer-clause-made
+returns-in-Some-transfer-clause-made g c =
+    failed-made c.args.state.now c.try_call.new.self c.transfer.new.state c.args.call.now c.transfer.result c.in-Some-transfer.reply (needed g (goal.at.returns-in-Some-transfer-clause-made g c).After-transfer)
+    c.in-Some-transfer.is c.transfer.ensures.grows
 
 pub loop-preserved : goal.loop-preserved
 loop-preserved g c =
     made-nothing c.args.state.now c.try_call.new.self c.transfer.new.state c.args.call.now c.transfer.result (needed g (goal.at.loop-preserved g c).After-transfer) c.transfer.ensures.event
-    (sym c.is_some.ensures ∙ c.if-is_some.false) c.transfer.ensures.grows
+    c.in_default.is c.transfer.ensures.grows
 
 pub unreachable-requires : goal.unreachable-requires
 unreachable-requires g c =
-    no-busy c.args.state.now c.loop.state c.try_call.new.self c.args.call.now c.in-Busy.field-0 c.requires.still c.requires.may c.loop.invariant c.try_call.ensures.event
-    (subst (AnswersCall c.loop.state c.try_call.new.self 0 1 c.args.call.now) c.in-Busy.is c.in_ok-try_call.ensures.answers)
+    no-busy c.args.state.now c.loop.state c.try_call.new.self c.args.call.now c.in-Busy.field-0 c.requires.still c.requires.alone c.loop.invariant c.try_call.ensures.event
+    (subst (AnswersCall c.loop.state c.try_call.new.self 0 1 c.args.call.now) c.in-Busy.is c.in_ok-reply.ensures.answers)

@@ -1,4 +1,4 @@
-use Rattle.std.proofs.Common.{◌≡◌, ℕ, ◌<◌, ◌≤◌, ◌+◌, ◌-◌, ◌++◌, ◌∷◌, [], List, Bool, true, length, map, take, None, refl, sym, ap, ◌∙◌, subst, arith, take_at}
+use Rattle.std.proofs.Common.{◌≡◌, ℕ, ◌-◌, ◌++◌, ◌∷◌, [], List, Bool, length, map, take, None, sym, ap, ◌∙◌, subst, arith, take_at}
 use Rattle.std.specs.Prelude.{All, vec_len}
 use Rattle.kernel_lock.specs.Seats.{HasAll, IsClosed}
 use Rattle.volume_files.specs.vm_script.declared.plan.PlanLine.{PlanLine}
@@ -77,7 +77,7 @@ run_all-is_whole-requires-clause-blocks g c = λ lifetimes outlives.
     let at = (goal.at.run_all-is_whole-requires-clause-blocks g c).In-Some in
     let k = c.in-Ok.started.0 in
     subst (λ (ls : List PlanLine). AreBlocksReady k ls c.as_mut_slice-blocks.result.now 1) (sym c.lines.ensures)
-    (subst (λ (row : List CallerSeen). AreBlocksReady k c.args.plan.now.lines row 1) (sym c.as_mut_slice-blocks.ensures.value) (ready g at))
+    (subst (λ (callers : List CallerSeen). AreBlocksReady k c.args.plan.now.lines callers 1) (sym c.as_mut_slice-blocks.ensures.value) (ready g at))
 
 pub run_all-is_whole-requires-clause-daemon : goal.run_all-is_whole-requires-clause-daemon
 run_all-is_whole-requires-clause-daemon g c = λ lifetimes outlives. (new g (goal.at.run_all-is_whole-requires-clause-daemon g c).In-Some).clock

@@ -6,4 +6,4 @@ use Rattle.vm_run.proofs.reading.read_plan.Goals as goal
 
 pub returns-in-Ok-clause-plan : goal.returns-in-Ok-clause-plan
 returns-in-Ok-clause-plan g c =
-    subst (λ (make : Option _). SaysScript make (g.S.Source.seen c.args.script.now).rest (Ok c.in-Ok.plan)) (sym c.in-Some.is) (generated_text c.in-Some.number, refl, c.in-Ok.ensures.failures)
+    subst (λ (make : Option _). SaysScript make (g.S.Source.seen c.args.script.now).rest (Ok c.in-Ok.plan)) (sym c.in-Some.is) (generated_text c.in-Some.number, refl, c.in-Ok.ensures.exact)

@@ -27,7 +27,7 @@ pub returns-in-Ok-Run-clause-err : goal.returns-in-Ok-Run-clause-err
 returns-in-Ok-Run-clause-err g c =
     let given = given_of (map string_bytes c.args.words.now) (g.S.Source.seen c.args.script.now) (g.R.Rack.seen c.args.rack.now) in
     let asks = rw c.in-Ok-Run.field-0-is at (c.in-Ok-Run.ensures.asks given.holds) in
-    IfErr-weaker c.ready_plan.result _ _ (λ s h st ft. h given _ refl asks.0 refl refl refl refl refl st ft) c.ready_plan.ensures.err
+    IfErr-weaker c.ready_plan.result _ _ (λ s h st ft. h given _ refl asks.0 refl refl refl refl st ft) c.ready_plan.ensures.err
 
 pub returns-in-Err-clause-err : goal.returns-in-Err-clause-err
 returns-in-Err-clause-err g c = λ st ft.

@@ -74,7 +74,7 @@ returns-in-Ok-start-clause-ok g c = λ holds files p.
     let at_home = subst (AreHome s.memory.world.store.bays (map (numbered_seen seen) at.disks.items)) swap
     (subst (λ (l : List (ℕ × DiskSeen)). AreHome s.memory.world.store.bays l (option_map seen c.into_swap-swap.result)) disks m.disks) in
     let seats = m.seats in
-    let parents = ap (λ (l : List ℕ). length l) c.parents.ensures in
+    let parents = ap (λ (l : List ℕ). length l) c.kernel_parents.ensures in
     let amounts = c.amounts_of-amounts.ensures ∙ ap amounts_of c.setup.ensures in
     started c.args.plan.now holds files (attached_seen seen at) c.args.placed.files p s c.in-Ok-start.ensures.opening c.in-Ok-start.ensures.fits at_home
     (m.order ∙ ap (λ (l : List (ℕ × _)). numbers_of l) c.number_disks-disks.ensures ∙ numbers-are seen at.disks.items)
