@@ -305,8 +305,7 @@ const CASES: [Case; 34] = [
     Case {
         name: "a read",
         script: b"process\nread a 0 4\nend\n",
-        status: 3,
-        text: b"script: later\n",
+        text: b"process 1\n2 read 0 error 9 NoObject\n3 exit ok\n",
         ..WHOLE
     },
 ];

@@ -8,6 +8,8 @@ mod disk_tests;
 #[cfg(test)]
 mod fault_tests;
 #[cfg(test)]
+mod file_tests;
+#[cfg(test)]
 mod kept_tests;
 #[cfg(test)]
 mod mapping_tests;

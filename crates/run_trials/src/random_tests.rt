@@ -1,5 +1,5 @@
 //! Whole runs of scripts made by chance: their histories are those of flat memory, and so are their files.
-ghost use Rattle.std.specs.Prelude.{◌≡◌, ◌<◌, ◌≤◌, length};
+ghost use Rattle.std.specs.Prelude.{◌≡◌, ◌<◌, ◌≤◌, ◌^◌, length};
 
 use crate::disk_tests::script_of_file;
 use crate::trial::{Fails, Left, NEVER, NO_WORDS, run_trial};
@@ -7,7 +7,7 @@ use block_device::Block;
 use flat_state::FlatState;
 use std::alloc::{AllocError, Global};
 use std::test::Fail;
-use vm_types::{Call, Entry, Line, Reply};
+use vm_types::{Call, Entry, Line, Reply, ends_call};
 
 // Numbers by chance: a linear congruential generator.
 #[derive(Drop)]
@@ -86,10 +86,29 @@ fn mapping_line(alloc: Global, chance: &mut Chance) -> Result<String, AllocError
     }
 }
 
+// A read, a write or a truncate of the file, which is by some bytes behind the begin or about the end of one of three pages: of a
+// few parts, and many end behind the file's end.
+fn file_line(alloc: Global, chance: &mut Chance) -> Result<String, AllocError> {
+    let offset = 4050 * chance.below(3) + chance.below(130);
+    match chance.below(5) {
+        0..=1 => format!(in alloc; "read c {offset} {}\n", 1 + chance.below(200)),
+        2..=3 => {
+            let mut line = format!(in alloc; "write c {offset} ")?;
+            for _ in 0..1 + chance.below(140) {
+                line.push_str(&format!(in alloc; "{:02x}", chance.below(256))?)?;
+            }
+            line.push_str("\n")?;
+            Ok(line)
+        }
+        _ => format!(in alloc; "truncate c {offset}\n"),
+    }
+}
+
 fn random_line(alloc: Global, chance: &mut Chance) -> Result<String, AllocError> {
-    match chance.below(16) {
+    match chance.below(19) {
         0..=3 => mapping_line(alloc, chance),
-        4..=8 => {
+        4..=6 => file_line(alloc, chance),
+        7..=11 => {
             let (addr, size) = word(chance);
             format!(in alloc; "store {addr} {size} {}\n", chance.below(256))
         }
@@ -159,7 +178,7 @@ pub(crate) fn replays(flat: &mut FlatState, entries: &[Entry]) -> Result<bool, A
 
 // Whether the line of this number of the file has these bytes.
 fn reads(flat: &mut FlatState, line: u32, bytes: &[u8]) -> Result<bool, AllocError>
-    requires line { line < 128 }
+    requires line { line < 256 }
     requires bytes { length bytes.now ≤ 64 }
 {
     let entry = Entry {
@@ -175,18 +194,46 @@ fn reads(flat: &mut FlatState, line: u32, bytes: &[u8]) -> Result<bool, AllocErr
     acts(flat, &entry)
 }
 
-// Whether the file that these blocks have from block 1 on is that of flat memory.
+// The length of the only file of a disk, by its table.
+fn length_in(table: &Block) -> usize
+    ensures { result < 2 ^ 32 }
+{
+    let bytes = &table.bytes;
+    u32::from_be_bytes([bytes[48], bytes[49], bytes[50], bytes[51]]) as usize
+}
+
+// Whether the file that these blocks have from block 1 on, which may have grown by a page, is that of flat memory.
 fn is_file(flat: &mut FlatState, blocks: &[Block]) -> Result<bool, AllocError> {
     if blocks.len() != 8 {
         return Ok(false);
     }
-    let (first, second) = (&blocks[1].bytes[..], &blocks[2].bytes[..]);
-    for line in 0..64_usize {
-        if !reads(flat, line as u32, &first[64 * line..64 * line + 64])? {
+    let length = length_in(&blocks[0]);
+    if length >= 3 * 4096 {
+        return Ok(false);
+    }
+    for line in 0..length / 64 + 1 {
+        let page = &blocks[1 + line / 64].bytes[..];
+        let first = 64 * (line % 64);
+        let count = (length - 64 * line).min(64);
+        if !reads(flat, line as u32, &page[first..first + count])? {
             return Ok(false);
         }
     }
-    reads(flat, 64, &second[..4])
+    Ok(true)
+}
+
+// How many of the entries end their calls.
+fn calls_in(entries: &[Entry]) -> usize {
+    let mut calls = 0;
+    for entry in entries {
+        if entry.call.is_well_formed()
+            && ends_call(&entry.call, &entry.reply)
+            && calls < 1_000_000
+        {
+            calls += 1;
+        }
+    }
+    calls
 }
 
 // Whether the run told a history of flat memory, and left the file that is there before the process exits.
@@ -197,7 +244,7 @@ fn is_flat(alloc: Global, slots: u32, left: &Left) -> Result<bool, AllocError> {
     };
     match left.entries.split_last() {
         Some((exit, entries)) => Ok(
-            entries.len() == 124
+            calls_in(entries) == 124
                 && replays(&mut flat, entries)?
                 && is_file(&mut flat, blocks)?
                 && acts(&mut flat, exit)?,

@@ -9,6 +9,7 @@ use std::alloc::{AllocError, Global};
 use std::sync::Wait;
 use std::test::Fail;
 use std::thread::Threads;
+use vm_types::{Call, Entry, ends_call};
 
 // A parent and its child each store into their page.
 const BOTH_SIDES: &[u8] =
@@ -140,7 +141,13 @@ fn what_processes_print_of_a_trace_is_legal(rt: HostRuntime) -> Result<(), Fail>
     }
     let script = writers_script(alloc)?;
     let report = writers_report(alloc)?;
-    look_at_trace(&rt, alloc, script.as_bytes(), report.as_bytes(), b"trace: legal 2004\n")
+    look_at_trace(
+        &rt,
+        alloc,
+        script.as_bytes(),
+        report.as_bytes(),
+        b"trace: legal 2004\n",
+    )
 }
 
 #[test]
@@ -342,4 +349,53 @@ fn two_processes_write_to_one_page_and_pageout_pushes_it(rt: HostRuntime) -> Res
     let flat = opened_for_two(alloc)?;
     let left = run_trial(&rt, alloc, "--pageout\n500", script.as_bytes(), &NEVER)?;
     look_at(&left, "two writers", report.as_bytes(), flat)
+}
+
+// A process that writes two hundred of its bytes in five parts and reads them again, twenty times.
+fn part_block(alloc: Global, script: &mut String, byte: &str) -> Result<(), AllocError> {
+    script.push_str("process\n")?;
+    for _ in 0..20u32 {
+        script.push_str("write a 60 ")?;
+        repeat(script, 200, byte)?;
+        script.push_str("\nread a 60 200\n")?;
+    }
+    script.push_str("end\n")
+}
+
+// Whether no call of a file stands between two parts of another process's.
+fn keep_apart(entries: &[Entry]) -> bool {
+    let mut open = None;
+    for entry in entries {
+        if !entry.call.is_well_formed() {
+            return false;
+        }
+        if let Call::Read { .. } | Call::Write { .. } = entry.call {
+            if open.is_some_and(|process| process != entry.process) {
+                return false;
+            }
+            open = if ends_call(&entry.call, &entry.reply) {
+                None
+            } else {
+                Some(entry.process)
+            };
+        }
+    }
+    open.is_none()
+}
+
+#[test]
+fn the_parts_of_two_processes_writes_stand_apart(rt: HostRuntime) -> Result<(), Fail> {
+    let alloc = rt.alloc();
+    let mut script = String::from_str(alloc, "disk 0 blank 8\nfile a rw 0 1 ")?;
+    repeat(&mut script, 4096, "00")?;
+    script.push_str("\n")?;
+    part_block(alloc, &mut script, "01")?;
+    part_block(alloc, &mut script, "02")?;
+    let mut flat = opened_for_two(alloc)?;
+    let left = run_trial(&rt, alloc, DAEMON, script.as_bytes(), &NEVER)?;
+    // Of each call five parts, and two exits.
+    assert_eq!(rt; (left.status, left.entries.len()), (0, 2 * 20 * 2 * 5 + 2));
+    assert!(rt; replays(&mut flat, left.entries.as_slice())?);
+    assert!(rt; keep_apart(left.entries.as_slice()));
+    Ok(())
 }

@@ -69,7 +69,13 @@ fn what_is_asked_is_read_or_a_line_says_why_not(rt: HostRuntime) -> Result<(), F
             0,
             b"process 1\n2 load SEGV nomap\n3 exit ok\n",
         ),
-        ("--make\n1", b"bad", 1, 3, b"script: later\n"),
+        (
+            "--make\n1",
+            b"bad",
+            1,
+            0,
+            b"make 1 entries 16832 signals 0 refusals 0 sum 4024264\n",
+        ),
         (
             "now",
             ONE,
