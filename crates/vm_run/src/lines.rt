@@ -10,7 +10,7 @@ ghost use Rattle.block_runs.specs.Conditions.{MayMakeLine};
 ghost use Rattle.block_runs.specs.Lines.{IsCallLine, own_of};
 ghost use Rattle.block_runs.specs.Parts.{MakesParts, MayMakeParts};
 ghost use Rattle.block_runs.specs.Rows.{IsOnWay, MakesLine};
-ghost use Rattle.vm_run.specs.Lines.{alone_caller, alone_kernel, AreOfOne};
+ghost use Rattle.vm_run.specs.Lines.{alone_caller, alone_kernel, AreOfOne, NamesFile};
 
 use crate::making::make_call;
 use block_runs::{bytes_in, cut_write};
@@ -52,6 +52,41 @@ fn make_parts<D: Disk>(
     unreachable!()
 }
 
+// Makes a line that names a file. Not inline, so that another line has no room for the parts of a write.
+#[inline(never)]
+fn make_named<D: Disk>(
+    rt: &impl Wait,
+    state: &mut VmState<D>,
+    line: &PlanLine,
+) -> Result<(), AllocError>
+    requires still { FitsStill state.old }
+    requires alone { AreOfOne state.old.history }
+    requires line { IsCallLine line.now.act }
+    requires named { NamesFile line.now.act }
+    requires may { MayMakeLine (alone_kernel state.old)
+        (alone_caller state.old state.old.history) line.now }
+    // The line's entries are those that came.
+    ensures event { IsEvent 0 state.old None state.new None }
+    ensures alone { AreOfOne state.new.history }
+    ensures made { OnOk result (MakesLine (alone_caller state.old state.old.history)
+        (alone_caller state.old state.new.history) line.now) }
+    ensures err { OnErr result (state.new.history ≡ state.old.history) }
+{
+    match &line.act {
+        PlanAct::Named { call, .. } => make_parts(rt, state, call, &[]),
+        PlanAct::Write {
+            file,
+            offset,
+            bytes,
+            ..
+        } => {
+            let (first, behind) = cut_write(*file, *offset, bytes.bytes());
+            make_parts(rt, state, &first, behind)
+        }
+        PlanAct::Call(_) | PlanAct::Wait => unreachable!(),
+    }
+}
+
 // Makes a line.
 fn make_line<D: Disk>(
     rt: &impl Wait,
@@ -75,17 +110,7 @@ fn make_line<D: Disk>(
             make_call(rt, state, call)?;
             Ok(())
         }
-        PlanAct::Named { call, .. } => make_parts(rt, state, call, &[]),
-        PlanAct::Write {
-            file,
-            offset,
-            bytes,
-            ..
-        } => {
-            let (first, behind) = cut_write(*file, *offset, bytes.bytes());
-            make_parts(rt, state, &first, behind)
-        }
-        PlanAct::Wait => unreachable!(),
+        _ => make_named(rt, state, line),
     }
 }
 
