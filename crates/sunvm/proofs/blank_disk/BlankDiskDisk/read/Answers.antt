@@ -5,8 +5,8 @@ use Rattle.sunvm.specs.BlankDisks.{written_at}
 use Rattle.sunvm.proofs.BlankDiskLemmas.{blank-read, bytes-or, written-read}
 use Rattle.sunvm.proofs.blank_disk.BlankDiskDisk.read.Goals as goal
 
-pub returns-in-None-clause-reads : goal.returns-in-None-clause-reads
-returns-in-None-clause-reads c =
+pub returns-in-None : goal.returns-in-None
+returns-in-None c =
     let d = c.args.self.now in
     record {
       gives = c.fill.ensures.after (λ y same. same) ∙ ap (λ (count : ℕ). replicate {A = ℕ} count 0) c.requires.size
@@ -19,8 +19,8 @@ returns-in-None-clause-reads c =
       cause = record { later = omega arith; failed = tt };
     }
 
-pub returns-in-Some-clause-reads : goal.returns-in-Some-clause-reads
-returns-in-Some-clause-reads c =
+pub returns-in-Some : goal.returns-in-Some
+returns-in-Some c =
     let d = c.args.self.now in
     let is : slice_index_or d.places.items c.args.block None ≡ Some c.in-Some.place = sym (c.place_of.ensures ∙ ap (λ (l : List (Option ℕ)). slice_index_or l c.args.block None) c.deref.ensures.value) ∙ c.in-Some.is in
     let own : written_at d.written.items c.in-Some.place ≡ c.copy_from_slice.new.self =

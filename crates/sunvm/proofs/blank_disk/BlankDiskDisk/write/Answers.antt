@@ -34,8 +34,8 @@ invariant_of-self-in-None c =
       room_of_blocks = subst (λ (k : ℕ). d.size ≤ k) (sym new.capacity_of_blocks) d.room_of_blocks;
     }
 
-pub returns-in-Some-clause-writes : goal.returns-in-Some-clause-writes
-returns-in-Some-clause-writes c =
+pub returns-in-Some : goal.returns-in-Some
+returns-in-Some c =
     let d = c.args.self.now in
     let is : slice_index_or d.places.items c.args.block None ≡ Some c.in-Some.place = sym (c.place_of.ensures ∙ ap (λ (l : List (Option ℕ)). slice_index_or l c.args.block None) c.deref.ensures.value) ∙ c.in-Some.is in
     record {
@@ -48,10 +48,10 @@ returns-in-Some-clause-writes c =
       cause = record { later = omega arith; failed = tt };
     }
 
-pub returns-in-None-clause-writes : goal.returns-in-None-clause-writes
-returns-in-None-clause-writes c =
+pub returns-in-None : goal.returns-in-None
+returns-in-None c =
     let d = c.args.self.now in
-    let n = none (goal.at.returns-in-None-clause-writes c).In-None in
+    let n = none (goal.at.returns-in-None c).In-None in
     let new = c.write_first.ensures in
     let b = new.written.0 in
     record {
