@@ -1,6 +1,6 @@
 -- How a run ended whose processes ran.
 use Rattle.std.proofs.Common.{◌≡◌, ℕ, ◌≤◌, ◌<◌, ◌++◌, true, false, List, [], refl, sym, ap, ◌∙◌, subst, arith, inl, inr}
-use Rattle.std.specs.Prelude.{◌⊎◌, Bool, IsTrue, Option, Some, None, slice_get, slice_index_or, IfSome}
+use Rattle.std.specs.Prelude.{◌⊎◌, All, Bool, IsTrue, Option, Some, None, slice_get, slice_index_or, IfSome}
 use Rattle.volume_files.specs.block_device.DiskSeen.{DiskSeen}
 use Rattle.volume_files.specs.block_device.StreamSeen.{SinkSeen}
 use Rattle.volume_files.specs.block_device.declared.disk_fault.DiskFault.{DiskFault}
@@ -9,6 +9,8 @@ use Rattle.volume_files.specs.vnode_files.declared.vnode.FileInfo.{FileInfo}
 use Rattle.volume_files.specs.vm_report.Faults.{disk_fault_text}
 use Rattle.volume_files.specs.vm_script.PlanSeen.{PlanSeen}
 use Rattle.volume_files.specs.vm_script.Told.{Told, ToldFront}
+use Rattle.volume_files.specs.vm_types.declared.call.Entry.{Entry}
+use Rattle.printed_traces.specs.Printed.{HasToldCounts}
 use Rattle.vm_core.specs.vm_world.State.{KernelState}
 use Rattle.vm_run.specs.declared.ending.Ending.{Ending}
 use Rattle.vm_run.specs.declared.ending.Ending.TheVariants as ending
@@ -80,7 +82,7 @@ module _ (st : ℕ) (ft : Option RunFault) (g : Given) (o : Outside) (what : Ask
     (ready : IsReady g o.sink_old k1 what files bytes a made plan) (s : KernelState) (l : LeftSeen)
     (started : IsStarted plan (opening_flat plan (disk_sizes a.disks) files) a.disks a.swap made s)
     (left : KernelLeaves (opening_flat plan (disk_sizes a.disks) files) s l)
-    (low : (i : ℕ) (d : ℕ × DiskSeen) → slice_get l.disks i ≡ Some d → d.0 < 8) (later : o.sink_old.faults ≤ k1.faults) where
+    (low : (i : ℕ) (d : ℕ × DiskSeen) → slice_get l.disks i ≡ Some d → d.0 < 8) (later : o.sink_old.faults ≤ k1.faults) (counts : All (λ (e : Entry). HasToldCounts e.reply) l.history.entries) where
   abbrev pub infos : List FileInfo
   infos = infos_made l.files
 
@@ -122,7 +124,7 @@ module _ (st : ℕ) (ft : Option RunFault) (g : Given) (o : Outside) (what : Ask
 
     through : Told plan l.history.entries → (shown : ℕ → List ℕ) → RunsThrough g (course shown) e
     through told shown = record {
-      begun = begun st ft g what files bytes a made plan o.sink_old k1 ready s l started left new w;
+      begun = begun st ft g what files bytes a made plan o.sink_old k1 ready s l started left new w counts;
       told = subst (λ (p : PlanSeen). Told p l.history.entries) ready.numbered told;
     }
 
@@ -144,7 +146,7 @@ module _ (st : ℕ) (ft : Option RunFault) (g : Given) (o : Outside) (what : Ask
     lacking : ToldFront plan l.history.entries → IsLeft → Wrote k1 o.sink_new [] → Lacks g o e
     lacking told kept wrote = inr (inr (inr (record {
       course = course (λ k. []);
-      begun = begun st ft g what files bytes a made plan o.sink_old k1 ready s l started left new w;
+      begun = begun st ft g what files bytes a made plan o.sink_old k1 ready s l started left new w counts;
       told = subst (λ (p : PlanSeen). ToldFront p l.history.entries) ready.numbered told;
       left = kept;
       wrote = inl (still_wrote o.sink_old k1 o.sink_new opening first (wrote ∙ sym (appended_nothing k1.written)));
@@ -227,7 +229,7 @@ module _ (st : ℕ) (ft : Option RunFault) (g : Given) (o : Outside) (what : Ask
       }
   shows told front none mid new w r tables ending.Memory h = inr (inr (inr (record {
     course = course h.0;
-    begun = begun st ft g what files bytes a made plan o.sink_old k1 ready s l started left new (writes-then l.disks mid new w r);
+    begun = begun st ft g what files bytes a made plan o.sink_old k1 ready s l started left new (writes-then l.disks mid new w r) counts;
     told = subst (λ (p : PlanSeen). ToldFront p l.history.entries) ready.numbered front;
     left = is-left new (writes-then l.disks mid new w r) none;
     wrote = inr (

@@ -31,7 +31,7 @@ one-asked (Some o) rest q r is h =
     told-text (script_told o.make rest) (λ text. by_script o (plan_of text)) q r said (h.1, h.2, h.3)
 
 -- no run is asked for where a check is
-not-checked : (g : Given) (what : Asked) (a : TraceAnswer) → run_request g ≡ Some (Ok what) → WasChecked g a → ⊥
+pub not-checked : (g : Given) (what : Asked) (a : TraceAnswer) → run_request g ≡ Some (Ok what) → WasChecked g a → ⊥
 not-checked g what a is w =
     let none : run_request g ≡ None = ap (λ (o : Option Options). request_of_options o g.rest) w.words
     ∙ ap (λ (b : Bool). if b then None else option_map (λ text. by_script w.options (plan_of text)) (script_told w.options.make g.rest)) w.check in
@@ -40,7 +40,7 @@ not-checked g what a is w =
 not-stopped : (g : Given) (what : Asked) (h : Ending) → run_request g ≡ Some (Ok what) → WasAsked g (Err h) → ⊥
 not-stopped g what h is p = let b : ◌≡◌ {A = Result Asked Ending} (Err h) (Ok what) = one-asked (options_of g.words) g.rest (Ok what) (Err h) is p in cc
 
-same-run_request : (g : Given) (what other : Asked) → run_request g ≡ Some (Ok what) → WasAsked g (Ok other) → other ≡ what
+pub same-run_request : (g : Given) (what other : Asked) → run_request g ≡ Some (Ok what) → WasAsked g (Ok other) → other ≡ what
 same-run_request g what other is p = let b : ◌≡◌ {A = Result Asked Ending} (Ok other) (Ok what) = one-asked (options_of g.words) g.rest (Ok what) (Ok other) is p in cc
 
 rack-or-disk : (f : OpenFaultSeen) (P : Type 0) (Q : ℕ × ℕ → Type 0) → MatchOption f.counts P Q → (P → ⊥) → IsSome f.counts

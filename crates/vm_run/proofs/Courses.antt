@@ -2,7 +2,7 @@
 use Rattle.vm_run.proofs.StartedFlat.{infos-fresh as made-infos}
 use Rattle.volume_files.proofs.FileLineLemmas.{names-made as names-fresh}
 use Rattle.std.proofs.Common.{◌≡◌, ℕ, zero, suc, ◌≤◌, ◌<◌, ◌==◌, Bool, true, false, List, [], ◌∷◌, length, map, refl, sym, ap, ◌∙◌, subst, arith, inl, inr}
-use Rattle.std.specs.Prelude.{IfNone, IfSome, IsSome, IsSomeAnd, Ok, Option, Some, None, slice_get, slice_index_or, zip, if◌then◌else◌}
+use Rattle.std.specs.Prelude.{All, IfNone, IfSome, IsSome, IsSomeAnd, Ok, Option, Some, None, slice_get, slice_index_or, zip, if◌then◌else◌}
 use Rattle.std.specs.Map.{lookup}
 use Rattle.std.proofs.lemmas.Bool.{false≢true, ne_eqb}
 use Rattle.std.proofs.lemmas.Bool.Decides.{eqb_tells}
@@ -21,8 +21,12 @@ use Rattle.volume_files.specs.flat_model.Shapes.{RefusesAsDue}
 use Rattle.volume_files.specs.vnode_files.Files.{FilesSeen}
 use Rattle.volume_files.specs.vnode_files.Vnode.{VnodeSeen}
 use Rattle.volume_files.specs.vnode_files.declared.vnode.FileInfo.{FileInfo}
+use Rattle.volume_files.specs.vm_types.declared.call.Entry.{Entry}
 use Rattle.volume_files.specs.vm_script.PlanSeen.{PlanSeen}
 use Rattle.volume_files.specs.vm_script.Rules.{amounts_of}
+use Rattle.trace_check.specs.Checks.{IsTextFor}
+use Rattle.printed_traces.specs.Printed.{IsTracedRun, HasToldCounts, printed_text}
+use Rattle.printed_traces.proofs.RunsTold.{run-stands}
 use Rattle.vm_core.specs.vm_world.State.{KernelState, FileMode, mode_of}
 use Rattle.vm_run.specs.declared.outcome.RunFault.{RunFault}
 use Rattle.vm_run.specs.Asked.{Given, Asked}
@@ -37,6 +41,7 @@ use Rattle.volume_files.specs.Written.{infos_made}
 use Rattle.vm_run.specs.Run.{AreClosedBytes, AreOpenedBytes, Begun, ClosesFiles, LeavesFiles, DisksTell, IsOpened, flat_opened, flat_closed}
 use Rattle.volume_files.specs.Written.{AreFilesBytes, HaveDisks, KeepsBlocks, WriteTables, disk_sizes}
 use Rattle.volume_files.proofs.DiskLists.{at-map, in-map, mate, number, to-all, zip-back, sizes-by, sizes-written, low-disks, lookup-at}
+use Rattle.vm_run.proofs.AskedRules.{asked-rules}
 use Rattle.vm_run.proofs.DisksTell.{file-disks-tell}
 use Rattle.vm_run.proofs.KeptBytes.{stored-kept}
 use Rattle.vm_run.proofs.Returned.{swap-serves-still}
@@ -169,10 +174,21 @@ module _ (st : ℕ) (ft : Option RunFault) (g : Given) (what : Asked) (files : L
           (ap handed (ne_eqb n 8 (λ eight. omega (arith, eight, low-number))) ∙ ap (lookup (λ m. m == n)) pairs-new ∙ lookup-at n new listed.0 m.0.1 apart there)
           (omega (arith, low, up))
 
-  pub begun : Begun g what files bytes ended
-  begun = record {
+  -- what a trace of it tells
+  traced-text : All (λ (e : Entry). HasToldCounts e.reply) l.history.entries → DisksTell g what ended
+      → IsTextFor (printed_text what.plan (sizes_of what.plan (bare_disks new)) files bytes l.history.entries) (flat_opened what files (bare_disks new)) l.history.entries
+  traced-text counts t =
+      let legal = subst (λ (F : Flat). Legal F l.history.entries) (ap (λ (p : PlanSeen). opening_flat p (disk_sizes a.disks) files) ready.numbered) (left.legal (told-left t.disks)) in
+      let ran : IsTracedRun what.plan g.holds files a made l.history.entries =
+      record { rules = asked-rules g what ready.asked; placed = ready.placed; legal = legal; formed = left.formed; few = left.few; counts = counts } in
+      subst (λ (z : List (ℕ × ℕ)). IsTextFor (printed_text what.plan z files bytes l.history.entries) (opening_flat what.plan z files) l.history.entries) (sym sizes-new)
+      (run-stands what.plan g.holds files a made l.history.entries bytes ran (record { lengths = ready.read.lengths; told = ready.read.told (disks-told t) }))
+
+  pub begun : All (λ (e : Entry). HasToldCounts e.reply) l.history.entries → Begun g what files bytes ended
+  begun counts = record {
     opened = is-opened;
     read = read-bytes;
+    traced = traced-text counts;
     legal = λ t. subst (λ (F : Flat). Legal F l.history.entries) flat-same (left.legal (told-left t.disks));
     refusals = subst (λ (F : Flat). RefusesAsDue F l.history.entries) flat-same left.refusals;
     counted = left.counted;

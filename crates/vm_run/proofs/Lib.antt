@@ -35,3 +35,5 @@ pub mod FitLines
 pub mod Histories
 pub mod CallerRooms
 pub mod KernelRows
+pub mod AskedRules
+pub mod PrintedTraces

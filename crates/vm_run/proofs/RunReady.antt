@@ -1,7 +1,7 @@
 -- A run that is ready, to its end.
 use Rattle.volume_files.proofs.ShownFiles.{reads_same as reads-refl}
 use Rattle.std.proofs.Common.{◌≡◌, ℕ, zero, suc, ◌≤◌, ◌<◌, ◌^◌, List, [], ◌∷◌, length, map, refl, sym, ap, ◌∙◌, subst, arith}
-use Rattle.std.specs.Prelude.{Bool, IsTrue, None, Ok, Option}
+use Rattle.std.specs.Prelude.{All, Bool, IsTrue, None, Ok, Option}
 use Rattle.std.proofs.lemmas.List.{length-map}
 use Rattle.volume_files.specs.block_device.DiskSeen.{DiskSeen}
 use Rattle.volume_files.specs.block_device.StreamSeen.{SinkSeen}
@@ -10,6 +10,8 @@ use Rattle.vm_core.specs.Finish.{HistorySeen}
 use Rattle.volume_files.specs.vm_script.PlanSeen.{PlanSeen}
 use Rattle.volume_files.specs.vm_script.Rules.{broken_rule}
 use Rattle.volume_files.specs.vm_script.Told.{Told, ToldFront}
+use Rattle.volume_files.specs.vm_types.declared.call.Entry.{Entry}
+use Rattle.printed_traces.specs.Printed.{HasToldCounts}
 use Rattle.vm_core.specs.vm_world.State.{FileMode, KernelState, mode_of}
 use Rattle.volume_files.specs.vnode_files.Files.{FilesSeen}
 use Rattle.volume_files.specs.vnode_files.Vnode.{VnodeSeen}
@@ -75,17 +77,17 @@ module _ (st : ℕ) (ft : Option RunFault) (g : Given) (o : Outside) (what : Ask
     (ready : IsReady g o.sink_old k1 what files bytes a made plan) where
   -- its processes ran
   pub ready-ends : (options : Options) → what.options ≡ options → (s : KernelState) (l : LeftSeen) → IsStarted plan (opening_flat plan (disk_sizes a.disks) files) a.disks a.swap made s
-      → KernelLeaves (opening_flat plan (disk_sizes a.disks) files) s l → o.sink_old.faults ≤ k1.faults → (whole : Bool) → (IsTrue whole → Told plan l.history.entries)
+      → KernelLeaves (opening_flat plan (disk_sizes a.disks) files) s l → o.sink_old.faults ≤ k1.faults → All (λ (e : Entry). HasToldCounts e.reply) l.history.entries → (whole : Bool) → (IsTrue whole → Told plan l.history.entries)
       → ToldFront plan l.history.entries → (new : List (ℕ × DiskSeen)) (how : Ending) (k2 : SinkSeen) → o.sink_new ≡ k2
       → CloseEnds whole l.fault options plan l.history.entries (infos_made l.files) k1 k2 l.disks new how
       → (H-new : HistorySeen) (d-new : List DiskSeen) (w-new : Option DiskSeen) → H-new ≡ l.history → d-new ≡ bare_disks new → w-new ≡ l.swap
       → CaseOf g o (wrote_before o) (record { status = st; fault = ft; history = H-new; disks = d-new; swap = w-new }) how
-  ready-ends options opt s l started left later whole told front new how k2 sink c H-new d-new w-new sameH same-d same-w =
+  ready-ends options opt s l started left later counts whole told front new how k2 sink c H-new d-new w-new sameH same-d same-w =
       let low = low-disks what.plan l.disks (left.disks.numbers ∙ ap (map number) started.racked ∙ ready.placed.numbers) in
       let by-options = subst (λ (op : Options). CloseEnds whole l.fault op plan l.history.entries (infos_made l.files) k1 k2 l.disks new how) (sym opt) c in
       let by-sink = subst (λ (k : SinkSeen). CloseEnds whole l.fault what.options plan l.history.entries (infos_made l.files) k1 k l.disks new how) (sym sink) by-options in
       subst (λ (e : End). CaseOf g o (wrote_before o) e how) (end-same st ft l.history H-new (bare_disks new) d-new l.swap w-new sameH same-d same-w)
-      (close-case st ft g o what files bytes a made plan k1 ready s l started left low later whole told front l.fault refl new how by-sink)
+      (close-case st ft g o what files bytes a made plan k1 ready s l started left low later counts whole told front l.fault refl new how by-sink)
 
   -- memory lacked for its kernel
   pub start-lacks : o.sink_new ≡ k1 → (AreUncounted (bare_disks a.disks) a.swap) → (H : HistorySeen) (d-new : List DiskSeen) (w-new : Option DiskSeen) (how : Ending) → H.entries ≡ [] → H.faults ≡ [] → how ≡ ending.Memory

@@ -14,15 +14,16 @@ use Rattle.volume_files.specs.vnode_files.declared.vnode.FileInfo.{FileInfo}
 use Rattle.volume_files.specs.vnode_files.Files.{FilesSeen, vnode_at}
 use Rattle.volume_files.specs.vnode_files.Grow.{page_count}
 use Rattle.volume_files.specs.vnode_files.Vnode.{VnodeSeen, fresh_vnode, no_vnode}
-use Rattle.volume_files.specs.volume_format.Table.{TableSeen, no_entry}
+use Rattle.volume_files.specs.volume_format.Table.{no_entry}
 use Rattle.vm_core.specs.Setup.{FilesOnDisks}
 use Rattle.volume_files.specs.vm_script.PlanSeen.{PlanSeen}
 use Rattle.volume_files.specs.Attached.{AttachedSeen, ArePlaced}
-use Rattle.volume_files.specs.Opened.{AreTablesRead, OpenedFile, disk_specs, infos_of}
+use Rattle.volume_files.specs.Opened.{OpenedFile, disk_specs, infos_of}
 use Rattle.volume_files.specs.Placing.{HasOpened}
 use Rattle.volume_files.specs.Written.{disk_sizes}
 use Rattle.volume_files.proofs.DiskLists.{at-map}
 use Rattle.volume_files.proofs.AllPlaced.{no_opened, set-disk}
+use Rattle.printed_traces.proofs.FilesTold.{few-blocks}
 use Rattle.volume_files.proofs.FileLineLemmas.{length-made}
 use Rattle.volume_files.proofs.PlacedLemmas.{at_index}
 
@@ -43,16 +44,6 @@ some-extents made after has kept file below =
     ∙ get_or-map (λ (f : OpenedFile). f.info) after file no_opened no_entry inside in
     subst (λ (i : FileInfo). 1 ≤ length i.extents) (sym same)
     (pages_some (slice_index_or after file no_opened).info.extents (at_index (λ (f : OpenedFile). 1 ≤ page_count f.info.extents) after file no_opened kept inside))
-
--- no disk has more blocks than a table may say
-few-blocks : (holds : Spec → Option (List (List ℕ))) (specs : List Spec) (disks : List (ℕ × ℕ)) (tables : List TableSeen) → AreTablesRead holds specs disks tables
-    → (i : ℕ) (d : ℕ × ℕ) → slice_get disks i ≡ Some d → d.1 ≤ 16384
-few-blocks holds [] [] tables read i d at = absurd (cc at)
-few-blocks holds [] (x ∷ disks) tables read i d at = absurd read
-few-blocks holds (s ∷ specs) [] tables read i d at = absurd read
-few-blocks holds (s ∷ specs) (x ∷ disks) [] read i d at = absurd read
-few-blocks holds (s ∷ specs) (x ∷ disks) (t ∷ tables) read zero d at = let same : x ≡ d = cc at in subst (λ (y : ℕ × ℕ). y.1 ≤ 16384) same read.0.few
-few-blocks holds (s ∷ specs) (x ∷ disks) (t ∷ tables) read (suc i) d at = few-blocks holds specs disks tables read.1 i d at
 
 pub files-lie : (plan : PlanSeen) (holds : Spec → Option (List (List ℕ))) (files : List OpenedFile) (a : AttachedSeen) (made : FilesSeen) → ArePlaced plan holds files a made
     → FilesOnDisks made a.disks

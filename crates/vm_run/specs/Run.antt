@@ -1,5 +1,5 @@
 -- HOW A RUN ENDED, case by case. Public clauses cite this.
-use Rattle.std.specs.Prelude.{ℕ, ◌≡◌, ◌≢◌, ◌+◌, ◌⊎◌, true, List, [], ◌++◌, length, slice_get, IsSome, Option, Some, None, Ok, Err}
+use Rattle.std.specs.Prelude.{ℕ, ◌≡◌, ◌≢◌, ◌+◌, ◌≤◌, ◌⊎◌, true, List, [], ◌++◌, length, slice_get, IsSome, IsTrue, Option, Some, None, Ok, Err}
 use Rattle.volume_files.specs.vm_types.declared.call.Entry.{Entry}
 use Rattle.volume_files.specs.block_device.Counts.{HasRisen}
 use Rattle.volume_files.specs.block_device.DiskSeen.{DiskSeen}
@@ -18,7 +18,11 @@ use Rattle.volume_files.specs.vm_script.Told.{Told, ToldFront}
 use Rattle.volume_files.specs.declared.stops.Refusal.{Refusal}
 use Rattle.vm_run.specs.declared.ending.Ending.{Ending}
 use Rattle.vm_run.specs.declared.ending.Ending.TheVariants as ending
+use Rattle.trace_check.specs.Checks.{IsTextFor}
+use Rattle.trace_check.specs.declared.verdict.Verdict.TheVariants as verdict
+use Rattle.printed_traces.specs.Printed.{printed_text}
 use Rattle.vm_run.specs.declared.ending.TraceAnswer.{TraceAnswer}
+use Rattle.vm_run.specs.declared.ending.TraceAnswer.TheVariants as answer
 use Rattle.vm_run.specs.declared.ending.TraceEnd.{TraceEnd}
 use Rattle.vm_run.specs.declared.ending.TraceEnd.TheVariants as ends
 use Rattle.vm_run.specs.declared.outcome.RunFault.{RunFault}
@@ -33,7 +37,7 @@ use Rattle.volume_files.specs.Handed.{HasOpeningCause, HasRefusalCause, StopsAtt
 use Rattle.volume_files.specs.Opened.{line_files_of, ComesTo, OpenedFile, opened_files, infos_of, names_of, numbered_plan, opening_flat}
 use Rattle.volume_files.specs.Texts.{Wrote, WroteAndFront, WroteAndPart, WroteFront, WroteOn, WrotePart, IsPageUnread, sections_before, trace_front}
 use Rattle.vm_run.specs.AskedTexts.{files_or_none, middle_text, trace_opening}
-use Rattle.vm_run.specs.TraceChecks.{WasChecked, WroteAnswer, StopsInAnswer}
+use Rattle.vm_run.specs.TraceChecks.{AnswersText, WasChecked, WroteAnswer, StopsInAnswer, most_trace_bytes}
 
 -- What the outside has seen of a run: the counts of faults of source and rack before and after it, how many disks the rack had attached, and the sink.
 pub record Outside : Type 0 where
@@ -163,8 +167,9 @@ pub record StopsInTrace (g : Given) (o : Outside) (e : End) : Type 0 where
   pub cause : HasRisen o.sink_old.faults o.sink_new.faults
   pub wrote : WrotePart o.sink_old o.sink_new (opening_part what files e.disks bytes)
 
--- THE RUN BEGAN. Flat memory as the processes find it; where the disks tell, the history is legal for it; whatever they tell, each of its entries has the
--- signal or errno that flat memory calls due, or none where none is; and each of its device errors names a fault that its disk counted.
+-- THE RUN BEGAN. Flat memory as the processes find it; where the disks tell, the history is legal for it, and a trace of both is a text that stands for them;
+-- whatever they tell, each of its entries has the signal or errno that flat memory calls due, or none where none is; and each of its device errors names a
+-- fault that its disk counted.
 abbrev pub flat_opened : Asked → List OpenedFile → List DiskSeen → Flat
 flat_opened what files disks = opening_flat what.plan (sizes_of what.plan disks) files
 
@@ -174,10 +179,15 @@ plan_opened what files = numbered_plan files what.plan
 abbrev pub flat_closed : Asked → List OpenedFile → List DiskSeen → List Entry → Flat
 flat_closed what files disks H = replay (flat_opened what files disks) H
 
+-- What a trace of it tells: the opening part, and the history.
+abbrev pub traced_text : Asked → List OpenedFile → (ℕ → List ℕ) → End → List ℕ
+traced_text what files bytes e = printed_text what.plan (sizes_of what.plan e.disks) files bytes e.history.entries
+
 pub record Begun (g : Given) (what : Asked) (files : List OpenedFile) (bytes : ℕ → List ℕ) (e : End) : Type 0 where
   pub opened : IsOpened g what files e
   pub read : AreOpenedBytes g what files e bytes
   pub legal : DisksTell g what e → Legal (flat_opened what files e.disks) e.history.entries
+  pub traced : DisksTell g what e → IsTextFor (traced_text what files bytes e) (flat_opened what files e.disks) e.history.entries
   pub refusals : RefusesAsDue (flat_opened what files e.disks) e.history.entries
   pub counted : Counted e.history.entries
   pub reached : CountsReach what.plan e.disks e.swap e.history.entries
@@ -374,3 +384,19 @@ IsComplete g o e =
     (what : Asked) → run_request g ≡ Some (Ok what)
     → ¬ HasRisen o.source_old o.source_new → ¬ HasRisen o.sink_old.faults o.sink_new.faults → ¬ HasRisen o.rack_old o.rack_new
     → (e.status ≡ 0) ⊎ (e.status ≡ 8) ⊎ IsDiskCounted e.fault ⊎ BreaksSetup g what e
+
+-- A TRACE THAT WAS PRINTED: the text begins with one that stands for flat memory as the processes found it, and for the history; and what a check answers to
+-- it, where it isn't too long for one, is that it is legal, with as many entries.
+pub record PrintsTrace (g : Given) (o : Outside) (what : Asked) (e : End) : Type 0 where
+  pub files : List OpenedFile
+  pub opened : IsOpened g what files e
+  pub trace : List ℕ
+  pub report : List ℕ
+  pub wrote : Wrote o.sink_old o.sink_new (trace ++ report)
+  pub stands : IsTextFor trace (flat_opened what files e.disks) e.history.entries
+  pub answered : length trace ≤ most_trace_bytes → (a : TraceAnswer) → AnswersText trace a → a ≡ answer.Verdict (verdict.Legal (length e.history.entries))
+
+-- With a trace and status 0, over disks that tell, such a trace was printed.
+abbrev pub PrintsLegalTrace : Given → Outside → End → Type 0
+PrintsLegalTrace g o e =
+    (what : Asked) → run_request g ≡ Some (Ok what) → IsTrue what.options.trace → e.status ≡ 0 → DisksTell g what e → PrintsTrace g o what e

@@ -7,7 +7,7 @@ ghost use Rattle.vm_run.specs.Course.{HasCase, IsReady};
 ghost use Rattle.volume_files.specs.Opened.{OpenedFile};
 ghost use Rattle.volume_files.specs.Handed.{AreUncounted, member_count};
 ghost use Rattle.vm_run.specs.Ended.{end_of};
-ghost use Rattle.vm_run.specs.Run.{IsComplete, NoneFailed, Outside, RunEnds, outside_of};
+ghost use Rattle.vm_run.specs.Run.{IsComplete, NoneFailed, Outside, PrintsLegalTrace, RunEnds, outside_of};
 ghost use Rattle.vm_run.specs.declared.ending.Ending.TheVariants.{Memory};
 
 use crate::concluding::conclude;
@@ -17,9 +17,11 @@ use crate::outcome::Outcome;
 use crate::playing::play;
 use crate::ready::{Ready, make_ready};
 use crate::starting::{Started, start};
+use printed_traces::counts_law;
 use std::alloc::Global;
 use std::sync::Wait;
 use std::thread::Threads;
+use trace_check::one_answer_law;
 use volume_files::{Disk, Rack, Sink, Source};
 
 /// Runs a script: its disks are attached, its files placed, its processes run, its files closed, and its report written.
@@ -43,7 +45,14 @@ pub fn run<T: Threads + Wait + Sync, S: Source, K: Sink, R: Rack>(
         (outside_of (S.seen script.old) (S.seen script.new)
         (R.seen rack.old) (R.seen rack.new) (K.seen out.old) (K.seen out.new))
         (end_of R.D.seen result) }
+    // With a trace and status 0, over disks that tell: it is one that a check answers as legal.
+    ensures traced { PrintsLegalTrace
+        (given_of (map string_bytes words.now) (S.seen script.old) (R.seen rack.old))
+        (outside_of (S.seen script.old) (S.seen script.new)
+        (R.seen rack.old) (R.seen rack.new) (K.seen out.old) (K.seen out.new))
+        (end_of R.D.seen result) }
 {
+    one_answer_law();
     let stop = course(rt, alloc, words, script, out, rack);
     conclude(alloc, stop, out)
 }
@@ -110,6 +119,7 @@ fn run_ready<T: Threads + Wait + Sync, D: Disk + Send, K: Sink>(
     match start(alloc, &plan, placed) {
         Ok(Started { state, rooms, back }) => {
             let played = play(rt, alloc, state, &rooms, &plan, options.pageout);
+            counts_law(played.finished.history.entries());
             end_run(alloc, &options, &plan, played, back, out)
         }
         Err(stop) => stop,

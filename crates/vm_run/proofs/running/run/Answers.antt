@@ -4,6 +4,7 @@ use Rattle.vm_run.specs.Asked.{given_of}
 use Rattle.volume_files.proofs.DiskCounts.{count-as}
 use Rattle.vm_run.proofs.LastLines.{ends-so}
 use Rattle.vm_run.proofs.Completes.{completes}
+use Rattle.vm_run.proofs.PrintedTraces.{prints-trace}
 use Rattle.vm_run.proofs.running.run.Goals as goal
 
 pub returns-clause-ends : goal.returns-clause-ends
@@ -23,3 +24,6 @@ returns-clause-ends g c =
 
 pub returns-clause-complete : goal.returns-clause-complete
 returns-clause-complete g c = completes _ _ _ (returns-clause-ends g c)
+
+pub returns-clause-traced : goal.returns-clause-traced
+returns-clause-traced g c = prints-trace c.one_answer_law.ensures _ _ _ (returns-clause-ends g c)

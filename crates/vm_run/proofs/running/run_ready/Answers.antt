@@ -1,7 +1,9 @@
-use Rattle.std.proofs.Common.{◌≡◌, ◌∙◌, ap, arith, length, map}
-use Rattle.std.specs.Prelude.{None, option_map}
+use Rattle.std.proofs.Common.{◌≡◌, ◌∙◌, ap, arith, length, map, subst}
+use Rattle.std.specs.Prelude.{All, None, option_map}
 use Rattle.std.proofs.lemmas.List.{length-map}
 use Rattle.vm_core.specs.page_store.Bays.{pairs_seen}
+use Rattle.volume_files.specs.vm_types.declared.call.Entry.{Entry}
+use Rattle.printed_traces.specs.Printed.{HasToldCounts}
 use Rattle.volume_files.specs.Attached.{attached_seen}
 use Rattle.volume_files.specs.Opened.{opening_flat}
 use Rattle.vm_run.specs.Played.{IsStarted, KernelLeaves, left_seen}
@@ -90,7 +92,7 @@ returns-in-Ok-clause-ends g c = λ g2 o what files bytes opt rd later sink none 
     let started = c.in-Ok.ensures.ok g2.holds files placed in
     let e = c.end_run.ensures.ends in
     ready-ends st ft g2 o what files bytes a c.args.ready.placed.files c.args.ready.plan (g.K.Sink.seen c.args.out.now) rd c.args.ready.options opt c.in-Ok.field-0.state
-    (left_seen g.D.Disk.seen c.play-played.result.finished) started (c.play-played.ensures.left _ _ _ _ started) later c.play-played.result.is_whole
+    (left_seen g.D.Disk.seen c.play-played.result.finished) started (c.play-played.ensures.left _ _ _ _ started) later (subst (All (λ (e : Entry). HasToldCounts e.reply)) c.entries.ensures c.counts_law.ensures) c.play-played.result.is_whole
     c.play-played.ensures.whole c.play-played.ensures.front e.0 c.end_run.result.ending (g.K.Sink.seen c.end_run.new.out) sink e.2 c.end_run.result.history
     (map g.D.Disk.seen c.end_run.result.disks.items) (option_map g.D.Disk.seen c.end_run.result.swap) c.end_run.ensures.history e.1
     (ap (option_map g.D.Disk.seen) c.end_run.ensures.swap)
