@@ -1,8 +1,7 @@
 -- Pages and their places along a history.
-use Rattle.std.proofs.Common.{◌≡◌, ◌≢◌, ℕ, zero, suc, ◌<◌, ◌≤◌, true, false, List, [], ◌∷◌, length, take, Option, Some, None, refl, sym, ap, subst, ◌∙◌, inl, inr, arith}
-use Rattle.std.specs.Prelude.{IsSome, IsSomeAnd, nat_lt, option_and_then, slice_get}
+use Rattle.std.proofs.Common.{◌≡◌, ◌≢◌, ℕ, zero, suc, ◌<◌, ◌≤◌, List, [], ◌∷◌, length, take, Option, Some, None, refl, sym, ap, subst, ◌∙◌, arith}
+use Rattle.std.specs.Prelude.{IsSome, IsSomeAnd, option_and_then, slice_get}
 use Rattle.std.specs.Option.{option_map_or}
-use Rattle.std.proofs.lemmas.Bool.{cases_lt, lt-ltb}
 use Rattle.flat_model.specs.vm_types.Pages.{bytes_before, pages_in}
 use Rattle.flat_model.specs.vm_types.declared.call.Entry.{Entry}
 use Rattle.flat_model.specs.vnode_files.Vnode.{page_blocks}
@@ -17,10 +16,6 @@ use Rattle.mark_laws.specs.Pages.{after_first, bytes_there, file_page, page_ther
 use Rattle.mark_laws.specs.FileLaws.{HaveBlocks, KeepsOldBlocks}
 use Rattle.mark_laws.proofs.FilesStay.{files_stay_rule}
 use Rattle.mark_laws.proofs.PagePlaces.{place-parts, place-of, no-block}
-
--- a test that fails
-pub not-less : (a b : ℕ) → nat_lt a b ≡ false → b ≤ a
-not-less a b isnt = elim (cases_lt a b) [ inl lt ↦ absurd (let z : true ≡ false = sym (lt-ltb a b lt) ∙ isnt in cc) | inr le ↦ le ]
 
 -- what is said of an optional value that is there
 pub some-and : (o : Option File) (P : File → Type 0) → IsSomeAnd o P → (x : File) × (o ≡ Some x) × P x

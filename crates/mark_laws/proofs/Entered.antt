@@ -4,7 +4,7 @@ use Rattle.std.specs.Prelude.{IsSome, nat_lt, option_and_then, slice_get}
 use Rattle.std.specs.Option.{option_map_or}
 use Rattle.std.specs.FinMap as finite
 use Rattle.std.specs.Ordering.{nat_cmp}
-use Rattle.std.proofs.lemmas.Bool.{cases_eq, cases_Bool, ltb-true}
+use Rattle.std.proofs.lemmas.Bool.{cases_eq, cases_Bool, ltb-true, ltb-false}
 use Rattle.std.proofs.lemmas.List.{take-append-le, length-append, length-replicate, length-take}
 use Rattle.flat_model.specs.vm_types.Pages.{bytes_before}
 use Rattle.flat_model.specs.vm_types.declared.call.Entry.{Entry}
@@ -28,7 +28,7 @@ use Rattle.mark_laws.specs.MarksFit.{DiskContents, OfBlock, BlockFits, IsDropped
 use Rattle.mark_laws.specs.FileLaws.{KeepsOldBlocks, StepFiles}
 use Rattle.mark_laws.specs.Cuts.{CutsFile}
 use Rattle.mark_laws.specs.EntryLaws.{ReachesNext}
-use Rattle.mark_laws.proofs.Along.{not-less, some-and, step-place, place-along, no-end, zeros-past, place-shown}
+use Rattle.mark_laws.proofs.Along.{some-and, step-place, place-along, no-end, zeros-past, place-shown}
 use Rattle.mark_laws.proofs.Cutting.{row_taken, row_unpushed}
 use Rattle.mark_laws.proofs.FilesStay.{files_stay_rule}
 use Rattle.mark_laws.proofs.Rows.{told-all}
@@ -340,7 +340,7 @@ module _ (opening : Flat) (H : List Entry) (e : Entry) (contents : DiskContents)
                 now = ap (λ (F : Flat). slice_get F.files name.object) (sym (replay-push opening H e)) ∙ g.1;
                 less = ltb-true g.0.len file.len y;
               }))
-              | inr n ↦ not-less g.0.len file.len n
+              | inr n ↦ ltb-false g.0.len file.len n
             ] in
             subst (λ (o : Option File). bytes_before file.len name.page ≤ option_map_or (λ (x : File). bytes_before x.len name.page) o 0) (sym g.1) (omega (arith, le))
 

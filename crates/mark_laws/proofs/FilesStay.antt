@@ -3,7 +3,7 @@ use Rattle.std.proofs.Common.{◌≡◌, ℕ, zero, suc, ◌+◌, ◌-◌, ◌*�
 use Rattle.std.specs.Prelude.{IsFalse, All, nat_lt, nat_le, option_and_then, option_map, replicate, slice_get, slice_set, take, unwrap_or, if◌then◌else◌}
 use Rattle.std.specs.FinMap as finite
 use Rattle.std.proofs.lemmas.Bool.{cases_eq, eq-eqb}
-use Rattle.std.proofs.lemmas.List.{length-set, length-map, length-append, length-replicate, length-take}
+use Rattle.std.proofs.lemmas.List.{length-set, length-map, length-take}
 use Rattle.std.proofs.lemmas.Option.{slice_get-map}
 use Rattle.flat_model.specs.vm_types.declared.call.Call.{Call}
 use Rattle.flat_model.specs.vm_types.declared.call.Call.TheVariants.{Load, Store, Map, Unmap, Protect, Sync, Read, Write, Truncate, Fork, Exit}
@@ -26,7 +26,7 @@ use Rattle.flat_model.specs.vnode_files.Grow.{is_free, page_count}
 use Rattle.flat_model.specs.vnode_files.Vnode.{page_blocks}
 use Rattle.flat_model.proofs.vnode_files.BlockLemmas.{length-page_blocks}
 use Rattle.flat_model.proofs.vnode_files.GrowthLaws.{growth_law}
-use Rattle.flat_model.specs.Words.{Page, page, pages_in, word_at, word_put, zero_page}
+use Rattle.flat_model.specs.Words.{Page, page, pages_in, word_at, word_put}
 use Rattle.page_store.specs.page_hash.declared.PageName.{PageName}
 use Rattle.flat_model.specs.Flat.{Cell, File, Flat, reserved, private_cells}
 use Rattle.flat_model.specs.Refusals.{◌>>◌, check, Effect, or_signal, or_refused, done_effect}
@@ -37,12 +37,13 @@ use Rattle.flat_model.specs.Parts.{read_line, without_tail, longer_file, shorter
 use Rattle.flat_model.specs.Processes.{with_child}
 use Rattle.flat_model.specs.Step.{effect, after_act, step, is_bit_set, files_cleared, tails_cleared}
 use Rattle.mark_laws.specs.Pages.{disk_place}
-use Rattle.mark_laws.specs.FileLaws.{KeepsSize, KeepsOldBlocks, KeepsPages, HaveBlocks, IsFreeBlock, is_cut_of, StepFiles, FilesStay}
+use Rattle.mark_laws.specs.FileLaws.{KeepsSize, KeepsOldBlocks, KeepsPageBlocks, HaveBlocks, IsFreeBlock, is_cut_of, StepFiles, FilesStay}
 use Rattle.flat_model.proofs.Bytes.{slice_get-slice_set, All-slice_get}
 use Rattle.flat_model.proofs.FileBytes.{length-pages_with_bytes, len-longer_file}
 use Rattle.flat_model.proofs.Frames.{slice_get-set_apart, there}
 use Rattle.flat_model.proofs.Mappings.{mapped-map_result}
 use Rattle.flat_model.proofs.Rooms.{has_room}
+use Rattle.flat_model.proofs.ShapeSteps.{longer-count}
 use Rattle.mark_laws.proofs.FreeBlocks.{free-block}
 use Rattle.mark_laws.proofs.PagePlaces.{place-parts, no-block}
 
@@ -69,7 +70,7 @@ record ChangeFile (call : Call) (F G : Flat) : Type 0 where
   files : G.files ≡ slice_set F.files f new
   blocks : KeepsOldBlocks old new
   longer : IsFalse (is_cut_of f call) → old.len ≤ new.len
-  kept : KeepsPages old → KeepsPages new
+  kept : KeepsPageBlocks old → KeepsPageBlocks new
   fresh : (page b : ℕ) → slice_get (page_blocks old.extents) page ≡ None → slice_get (page_blocks new.extents) page ≡ Some b → IsFreeBlock F old.disk b
 
 -- what a call does to the files: no size changes, or that of its own file
@@ -184,13 +185,6 @@ changes-room F call f end file new of is disk extents longer fits =
             (page_blocks room.old.extents) gives.takes.added page b none (sym (ap (λ (bs : List ℕ). slice_get bs page) blocks) ∙ at) gives.takes.free);
       }),
     )
-
-longer-count : (n : ℕ) (file : File) → length (longer_file n file).pages ≡ length file.pages + (pages_in n - length file.pages)
-unfolding longer_file
-longer-count n file =
-    length-pages_with_bytes (file.pages ++ replicate (pages_in n - length file.pages) zero_page) file.len (replicate (n - file.len) 0)
-    ∙ length-append file.pages (replicate (pages_in n - length file.pages) zero_page)
-    ∙ ap (λ (k : ℕ). length file.pages + k) (length-replicate (pages_in n - length file.pages) zero_page)
 
 longer-fits : (n : ℕ) (file : File) → FitsWith n file (longer_file n file)
 longer-fits n file k end pages len =
@@ -393,7 +387,7 @@ module _ (F : Flat) (e : Entry) where
 
   -- files keep blocks for their pages
   abbrev AreKept : List File → Type 0
-  AreKept fs = (f : ℕ) (file : File) → slice_get fs f ≡ Some file → KeepsPages file
+  AreKept fs = (f : ℕ) (file : File) → slice_get fs f ≡ Some file → KeepsPageBlocks file
 
   sizes-keep : (fs gs : List File) → map size_of gs ≡ map size_of fs → AreKept fs → AreKept gs
   sizes-keep fs gs same have f file at =
@@ -418,7 +412,7 @@ module _ (F : Flat) (e : Entry) where
             let now : slice_get (step F e).files f ≡ Some c.new =
             ap (slice_get (step F e).files) here ∙ ap (λ (fs : List File). slice_get fs c.f) c.files ∙ slice_get-slice_set (tails_cleared F (is_bit_set e.cleared)).files c.f c.old c.new c.was in
             let same : c.new ≡ file = (let z : ◌≡◌ {A = Option File} (Some c.new) (Some file) = sym now ∙ at in cc) in
-            subst KeepsPages same (c.kept (before c.f c.old c.was))
+            subst KeepsPageBlocks same (c.kept (before c.f c.old c.was))
         | inr apart ↦ before f file (sym (slice_get-set_apart (tails_cleared F (is_bit_set e.cleared)).files c.f f c.new apart) ∙ sym (ap (λ (fs : List File). slice_get fs f) c.files) ∙ at)
       ]
 

@@ -1,8 +1,8 @@
 -- A block that a growth takes is no page's.
-use Rattle.std.proofs.Common.{◌≡◌, ◌≢◌, ℕ, zero, suc, Bool, true, false, cond, not, ◌||◌, ◌&&◌, eqb, List, [], ◌∷◌, ◌++◌, Option, Some, None, refl, sym, ap, ◌∙◌, inl, inr}
+use Rattle.std.proofs.Common.{◌≡◌, ◌≢◌, ℕ, zero, suc, Bool, true, false, cond, not, ◌||◌, eqb, List, [], ◌∷◌, ◌++◌, Option, Some, None, refl, sym, ap, ◌∙◌, inl, inr}
 use Rattle.std.specs.Prelude.{slice_get, nat_lt, ◌==◌, filter, remove}
 use Rattle.std.specs.List.{list_any, flat_map}
-use Rattle.std.proofs.lemmas.Bool.{cases_eq, eq-eqb, ltb-true}
+use Rattle.std.proofs.lemmas.Bool.{and_parts, cases_eq, eq-eqb, ltb-true, not-true, or_right}
 use Rattle.std.proofs.lemmas.List.Folds.{list_any-append}
 use Rattle.flat_model.specs.vnode_files.declared.extent.Extent.{Extent}
 use Rattle.flat_model.specs.vnode_files.Files.{block_count}
@@ -14,14 +14,10 @@ use Rattle.mark_laws.specs.FileLaws.{IsFreeBlock}
 use Rattle.flat_model.proofs.vnode_files.BlockLemmas.{any-page_blocks}
 use Rattle.mark_laws.proofs.PagePlaces.{place-parts}
 
-or-true : (b : Bool) → (b || true) ≡ true
-or-true true = refl
-or-true false = refl
-
 any-here : (bs : List ℕ) (i b : ℕ) → slice_get bs i ≡ Some b → list_any (eqb b) bs ≡ true
 any-here [] i b is = absurd (let z : ◌≡◌ {A = Option ℕ} None (Some b) = is in cc)
 any-here (x ∷ bs) zero b is = ap (λ (t : Bool). t || list_any (eqb b) bs) (eq-eqb b x (let z : ◌≡◌ {A = Option ℕ} (Some x) (Some b) = is in cc))
-any-here (x ∷ bs) (suc i) b is = ap (λ (t : Bool). eqb b x || t) (any-here bs i b is) ∙ or-true (eqb b x)
+any-here (x ∷ bs) (suc i) b is = or_right (eqb b x) (list_any (eqb b) bs) (any-here bs i b is)
 
 -- the extents of a file have the block of each of its pages
 has-block : (es : List Extent) (page b : ℕ) → slice_get (page_blocks es) page ≡ Some b → list_any (has_block b) es ≡ true
@@ -44,7 +40,7 @@ module _ (disk b : ℕ) where
       by_test : (t : Bool) → list_any (has_block b) (flat_map (λ (file : File). file.extents) (cond t (x ∷ filter (λ (file : File). file.disk == disk) fs) (filter (λ (file : File). file.disk == disk) fs))) ≡ true
       by_test true =
           list_any-append (has_block b) x.extents (extents_in disk fs)
-          ∙ ap (λ (t : Bool). list_any (has_block b) x.extents || t) has ∙ or-true (list_any (has_block b) x.extents)
+          ∙ or_right (list_any (has_block b) x.extents) (list_any (has_block b) (extents_in disk fs)) has
       by_test false = has
 
   any-file : (fs : List File) (g : ℕ) (file : File) → slice_get fs g ≡ Some file → (file.disk == disk) ≡ true → list_any (has_block b) file.extents ≡ true
@@ -65,23 +61,11 @@ module _ (disk b : ℕ) where
       any-head x (remove fs f) (sym (ap (λ (y : File). y.disk == disk) same) ∙ on) (sym (ap (λ (y : File). list_any (has_block b) y.extents) same) ∙ has)
   any-beside (x ∷ fs) (suc f) (suc g) file at apart on has = any-tail x (remove fs f) (any-beside fs f g file at (λ e. apart (ap suc e)) on has)
 
-first-true : (a b : Bool) → (a && b) ≡ true → a ≡ true
-first-true true b e = refl
-first-true false b e = e
-
-second-true : (a b : Bool) → (a && b) ≡ true → b ≡ true
-second-true true b e = e
-second-true false b e = absurd (let z : false ≡ true = e in cc)
-
-not-true : (b : Bool) → not b ≡ true → b ≡ false
-not-true true e = absurd (let z : false ≡ true = e in cc)
-not-true false e = refl
-
 -- A BLOCK THAT WAS FREE beside a file's extents is a free block.
 pub free-block : (F : Flat) (f : ℕ) (old : File) (b : ℕ) → slice_get F.files f ≡ Some old
     → is_free (block_count F.disks old.disk) (extents_beside F.files f old.disk ++ old.extents) b ≡ true → IsFreeBlock F old.disk b
 free-block F f old b was free = record {
-  within = ltb-true b (block_count F.disks old.disk) (first-true (nat_lt b (block_count F.disks old.disk)) (not (list_any (has_block b) (extents_beside F.files f old.disk ++ old.extents))) free);
+  within = ltb-true b (block_count F.disks old.disk) parts.0;
   free = λ name at. let p = place-parts F name old.disk b at in
       let has = has-block p.file.extents name.page b p.at in
       let on : (p.file.disk == old.disk) ≡ true = eq-eqb p.file.disk old.disk p.on in
@@ -89,11 +73,12 @@ free-block F f old b was free = record {
       list_any-append (has_block b) (extents_beside F.files f old.disk) old.extents ∙ elim (cases_eq name.object f) [
         | inl e ↦
             let same : p.file ≡ old = (let z : ◌≡◌ {A = Option File} (Some p.file) (Some old) = sym p.there ∙ ap (slice_get F.files) e ∙ was in cc) in
-            ap (λ (t : Bool). list_any (has_block b) (extents_beside F.files f old.disk) || t) (sym (ap (λ (y : File). list_any (has_block b) y.extents) same) ∙ has)
-            ∙ or-true (list_any (has_block b) (extents_beside F.files f old.disk))
+            or_right (list_any (has_block b) (extents_beside F.files f old.disk)) (list_any (has_block b) old.extents) (sym (ap (λ (y : File). list_any (has_block b) y.extents) same) ∙ has)
         | inr ne ↦ ap (λ (t : Bool). t || list_any (has_block b) old.extents) (any-beside old.disk b F.files f name.object p.file p.there ne on has)
       ] in
-      let none = not-true (list_any (has_block b) (extents_beside F.files f old.disk ++ old.extents))
-      (second-true (nat_lt b (block_count F.disks old.disk)) (not (list_any (has_block b) (extents_beside F.files f old.disk ++ old.extents))) free) in
+      let none = not-true (list_any (has_block b) (extents_beside F.files f old.disk ++ old.extents)) parts.1 in
       let z : true ≡ false = sym some ∙ none in cc;
 }
+  where
+    parts : (nat_lt b (block_count F.disks old.disk) ≡ true) × (not (list_any (has_block b) (extents_beside F.files f old.disk ++ old.extents)) ≡ true)
+    parts = and_parts (nat_lt b (block_count F.disks old.disk)) (not (list_any (has_block b) (extents_beside F.files f old.disk ++ old.extents))) free

@@ -2,7 +2,7 @@
 use Rattle.std.proofs.Common.{◌≡◌, ◌≢◌, ℕ, zero, suc, ◌<◌, ◌≤◌, ◌==◌, Bool, true, false, cond, List, [], ◌∷◌, ◌++◌, length, take, Option, Some, None, refl, sym, ap, ◌∙◌, inl, inr, subst, arith}
 use Rattle.std.specs.Prelude.{slice_get, nat_lt}
 use Rattle.std.specs.Option.{option_map_or}
-use Rattle.std.proofs.lemmas.Bool.{cases_eq, cases_Bool, eq-eqb, eqb-true, ltb-true}
+use Rattle.std.proofs.lemmas.Bool.{cases_eq, cases_Bool, eq-eqb, eqb-true, ltb-true, ltb-false}
 use Rattle.flat_model.specs.vm_types.Pages.{bytes_before, pages_in}
 use Rattle.flat_model.specs.vm_types.declared.call.Call.TheVariants.{Sync, Truncate}
 use Rattle.flat_model.specs.vm_types.declared.call.Entry.{Entry}
@@ -21,7 +21,7 @@ use Rattle.mark_laws.specs.MarksFit.{DiskContents, MarksFit, pushed_page}
 use Rattle.mark_laws.specs.FileLaws.{KeepsSize}
 use Rattle.mark_laws.specs.Cuts.{CutsFile, marks_shortened}
 use Rattle.mark_laws.specs.EntryLaws.{EntriesLaw}
-use Rattle.mark_laws.proofs.Along.{not-less, some-and, none-before, some-before, before-some}
+use Rattle.mark_laws.proofs.Along.{some-and, none-before, some-before, before-some}
 use Rattle.mark_laws.proofs.Cutting.{row_taken, row_unpushed, AreRows, cut-there, cut-other, cut-taken, cut-kept, cut-push}
 use Rattle.mark_laws.proofs.Ending.{starts-first}
 use Rattle.mark_laws.proofs.Entered.{RowTurns, PushTurns, files, turned-fits, entered-sync, entered-plain}
@@ -131,13 +131,13 @@ module _ (opening : Flat) (H : List Entry) (e : Entry) (contents : DiskContents)
                 elim (cases_Bool (nat_lt page to)) [
                   | inl stays ↦ inr (inl (subst (λ (d : ℕ). mark_row cut d block ≡ row_unpushed (mark_row m d block)) o.0 (cut-kept c.old.disk to (suc (length H)) blocks m page block rows there (ltb-true page to stays))))
                   | inr goes ↦ inr (inr (
-                    subst (λ (d : ℕ). mark_row cut d block ≡ row_taken (suc (length H))) o.0 (cut-taken c.old.disk to (suc (length H)) blocks m page block rows there (not-less page to goes)),
-                    end-new page ∙ none-before c.new.len page (not-less page to goes),
+                    subst (λ (d : ℕ). mark_row cut d block ≡ row_taken (suc (length H))) o.0 (cut-taken c.old.disk to (suc (length H)) blocks m page block rows there (ltb-false page to goes)),
+                    end-new page ∙ none-before c.new.len page (ltb-false page to goes),
                     λ k b syn. starts-first opening H legal k b (name-of page) syn,
                   ))
                 ]
             | inr past ↦
-                let le = not-less page from past in
+                let le = ltb-false page from past in
                 let none : bytes_there old (name-of page) ≡ 0 = end-old page ∙ none-before c.old.len page le in
                 inl (row-stays disk block (λ i i_at. let same = ap (λ (n : PageName). n.page) (apart (name-of page) (name-of i) disk block its i_at) in omega (arith, le, same)), omega (arith, none))
           ]
@@ -167,7 +167,7 @@ module _ (opening : Flat) (H : List Entry) (e : Entry) (contents : DiskContents)
                 λ disk block at.
                     let o = own-place p.page disk block (ap (λ (f : ℕ). disk_place old (record { object = f; page = p.page })) (sym own) ∙ at) in
                     let there : slice_get blocks p.page ≡ Some block = take-get from (page_blocks c.old.extents) p.page lt ∙ o.1 in
-                    subst (λ (d : ℕ). mark_row cut d block ≡ row_taken (suc (length H))) o.0 (cut-taken c.old.disk to (suc (length H)) blocks m p.page block rows there (not-less p.page to y)),
+                    subst (λ (d : ℕ). mark_row cut d block ≡ row_taken (suc (length H))) o.0 (cut-taken c.old.disk to (suc (length H)) blocks m p.page block rows there (ltb-false p.page to y)),
               ))
 
   pub shortened : MarksFit opening (H ++ e ∷ []) contents notes (marks_shortened m c.f c.old.disk c.old.extents c.old.len c.new.len (suc (length H)))

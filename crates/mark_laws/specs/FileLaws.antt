@@ -29,13 +29,13 @@ is_cut_of f (Truncate file len) = file == f
 is_cut_of f call = false
 
 -- A file keeps a block for each of its pages, and for each page that its length takes.
-pub record KeepsPages (file : File) : Type 0 where
+pub record KeepsPageBlocks (file : File) : Type 0 where
   pub pages : length file.pages ≤ length (page_blocks file.extents)
   pub len : pages_in file.len ≤ length (page_blocks file.extents)
 
 -- Each file does so.
 abbrev pub HaveBlocks : Flat → Type 0
-HaveBlocks F = (f : ℕ) (file : File) → slice_get F.files f ≡ Some file → KeepsPages file
+HaveBlocks F = (f : ℕ) (file : File) → slice_get F.files f ≡ Some file → KeepsPageBlocks file
 
 -- A block of a disk that no page of a file has.
 pub record IsFreeBlock (F : Flat) (disk block : ℕ) : Type 0 where

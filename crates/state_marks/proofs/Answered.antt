@@ -1,7 +1,7 @@
 -- The marks of a state with an entry more.
 use Rattle.std.proofs.Common.{◌≡◌, ◌≢◌, ℕ, zero, suc, ◌<◌, ◌≤◌, Bool, true, false, cond, List, [], ◌∷◌, ◌++◌, length, map, Option, Some, None, refl, sym, ap, ◌∙◌, inl, inr, subst, arith}
 use Rattle.std.specs.Prelude.{slice_index_or, slice_get, option_map, nat_lt, take}
-use Rattle.std.proofs.lemmas.Bool.{cases_Bool, ltb-true}
+use Rattle.std.proofs.lemmas.Bool.{cases_Bool, ltb-true, ltb-false}
 use Rattle.std.proofs.lemmas.Option.{slice_get-map}
 use Rattle.vm_world.specs.vm_types.declared.call.Call.{Call}
 use Rattle.vm_world.specs.vm_types.declared.call.Call.TheVariants.{Load, Store, Map, Unmap, Protect, Sync, Read, Write, Truncate, Fork, Exit}
@@ -29,7 +29,6 @@ use Rattle.mark_laws.specs.MarksFit.{MarksFit, FailuresFit}
 use Rattle.mark_laws.specs.EntryLaws.{ReachesNext}
 use Rattle.mark_laws.specs.Pages.{HavePlacesApart}
 use Rattle.mark_laws.specs.Syncs.{HasSynced}
-use Rattle.mark_laws.proofs.Along.{not-less}
 use Rattle.mark_laws.proofs.Failing.{failures_rule}
 use Rattle.mark_laws.proofs.Shortened.{entries_rule}
 use Rattle.mark_laws.proofs.Shortenings.{cuts_rule}
@@ -188,7 +187,7 @@ module _ (opening : Flat) (s new : KernelState) (e : Entry) (seats : Seats) (m :
           there lt = elim (cases_Bool (nat_lt f (length files.files))) [
             | inl y ↦ ltb-true f (length files.files) y
             | inr n ↦
-                let none : info.length ≡ 0 = ap (λ (v : VnodeSeen). v.info.length) (no-length files.files f (not-less f (length files.files) n)) in
+                let none : info.length ≡ 0 = ap (λ (v : VnodeSeen). v.info.length) (no-length files.files f (ltb-false f (length files.files) n)) in
                 absurd (omega (arith, lt, none))
           ]
 
@@ -200,7 +199,7 @@ module _ (opening : Flat) (s new : KernelState) (e : Entry) (seats : Seats) (m :
           let size : c.new.len ≡ len = cc in
           let i = (info-of c.f c.old c.was).len in
           let length_is : c.old.len ≡ info.length = i ∙ ap (λ (k : ℕ). (vnode_at files k).info.length) own in
-          let le = not-less len info.length more in
+          let le = ltb-false len info.length more in
           let less = c.less in
           absurd (omega (arith, size, length_is, le, less)))
 

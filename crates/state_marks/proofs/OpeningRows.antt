@@ -34,7 +34,7 @@ use Rattle.mark_laws.specs.disk_marks.declared.marks.MarkRow.{MarkRow}
 use Rattle.mark_laws.specs.disk_marks.declared.marks.Pushing.{Pushing}
 use Rattle.mark_laws.specs.disk_marks.Marks.{MarksSeen, HasRow, unused_row, mark_row}
 use Rattle.mark_laws.specs.Pages.{after_first, bytes_there, file_page, page_there, disk_place, HasPage}
-use Rattle.mark_laws.specs.FileLaws.{HaveBlocks, KeepsPages}
+use Rattle.mark_laws.specs.FileLaws.{HaveBlocks, KeepsPageBlocks}
 use Rattle.mark_laws.specs.Syncs.{entries_in}
 use Rattle.mark_laws.specs.MarksFit.{BlockFits, MarksFit}
 use Rattle.mark_laws.proofs.Rows.{told-all}
@@ -134,7 +134,7 @@ module _ (s : KernelState) (m : MarksSeen) (seats : ℕ) (o : IsOpening s) (mark
       (sym (file-in (contents_of s.memory.world no_notes).file 0 f (map (λ (v : VnodeSeen). v.info) s.memory.world.files.files)) ∙ at)
     where
       by_info : (o : Option FileInfo) → slice_get (map (λ (v : VnodeSeen). v.info) s.memory.world.files.files) f ≡ o
-          → option_map (file_with_pages ((contents_of s.memory.world no_notes).file (0 + f))) o ≡ Some file → KeepsPages file
+          → option_map (file_with_pages ((contents_of s.memory.world no_notes).file (0 + f))) o ≡ Some file → KeepsPageBlocks file
       by_info None e is = absurd (let z : ◌≡◌ {A = Option File} None (Some file) = is in cc)
       by_info (Some info) e is =
           let t = info-there s.memory.world.files f info e in
@@ -142,7 +142,7 @@ module _ (s : KernelState) (m : MarksSeen) (seats : ℕ) (o : IsOpening s) (mark
           let within : info.length ≤ page_count info.extents * 4096 = subst (λ (i : FileInfo). i.length ≤ page_count i.extents * 4096) t.1 (o.memory.files.each f t.0).within in
           let blocks = length-page_blocks info.extents in
           let pages = length-pages_from page 0 (pages_in info.length) in
-          subst KeepsPages (some-inj (file_with_pages page info) file is) (record {
+          subst KeepsPageBlocks (some-inj (file_with_pages page info) file is) (record {
             pages = omega (arith, within, blocks, pages);
             len = omega (arith, within, blocks);
           })

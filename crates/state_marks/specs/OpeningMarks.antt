@@ -23,8 +23,8 @@ opening_row true = record { mark = Blank 0; pushed = false }
 opening_row false = record { mark = Held 0; pushed = false }
 
 -- No file's page has the block.
-abbrev pub IsFree : FilesSeen → ℕ → ℕ → Type 0
-IsFree files disk block =
+abbrev pub HasNoPage : FilesSeen → ℕ → ℕ → Type 0
+HasNoPage files disk block =
     (file page : ℕ) → file < length files.files → page < pages_kept files file → disk_of_file files file ≡ disk
     → block_of_page files file page ≢ block
 
@@ -34,7 +34,7 @@ pub record AreOpeningMarks (files : FilesSeen) (seats : ℕ) (m : MarksSeen) : T
   pub there : (disk blocks block : ℕ) → finite.get files.disks disk ≡ Some blocks → block < blocks → HasRow m disk block
   pub pages : (file page : ℕ) → file < length files.files → page < pages_kept files file
       → page_row files m file page ≡ opening_row (is_blank (vnode_at files file) page)
-  pub free : (disk block : ℕ) → IsFree files disk block → mark_row m disk block ≡ unused_row
+  pub free : (disk block : ℕ) → HasNoPage files disk block → mark_row m disk block ≡ unused_row
   pub pushes : m.pushes ≡ replicate seats None
 
 -- They are true.
