@@ -113,9 +113,9 @@ const CASES: [Case; 34] = [
         ..WHOLE
     },
     Case {
-        name: "mapping calls are refused",
-        script: b"disk 0 blank 4\nfile a ro 0 1 68656c6c6f\nprocess\nmap 0x1000 0x10001000 r shared a 0\nmap 0x1000 0x10000000 r shared a 0\nmap any 1 r shared a 0\nmap 0x1000 4096 r shared a 0\n# write a 0 58\nmap 0x2000 4096 rw shared a 0\nmap 0x2000 4096 r shared q 0\n# read q 0 4\nmap 0x2000 0 r shared a 0\nunmap 0x2001 4096\nprotect 0x20000000 4096 r\nend\n",
-        text: b"process 1\n4 map error 5 TooLarge\n5 map 0x00001000\n6 map error 5 TooLarge\n7 map 0x00001000\n9 map error 2 Access\n10 map error 9 NoObject\n12 map error 1 Invalid\n13 unmap error 1 Invalid\n14 protect error 6 NotMapped\n15 exit ok\nfile a 5\n00000000 68656c6c6f\n",
+        name: "calls are refused",
+        script: b"disk 0 blank 4\nfile a ro 0 1 68656c6c6f\nprocess\nmap 0x1000 0x10001000 r shared a 0\nmap 0x1000 0x10000000 r shared a 0\nmap any 1 r shared a 0\nmap 0x1000 4096 r shared a 0\nwrite a 0 58\nmap 0x2000 4096 rw shared a 0\nmap 0x2000 4096 r shared q 0\nread q 0 4\nmap 0x2000 0 r shared a 0\nunmap 0x2001 4096\nprotect 0x20000000 4096 r\nend\n",
+        text: b"process 1\n4 map error 5 TooLarge\n5 map 0x00001000\n6 map error 5 TooLarge\n7 map 0x00001000\n8 write 0 error 7 ReadOnly\n9 map error 2 Access\n10 map error 9 NoObject\n11 read 0 error 9 NoObject\n12 map error 1 Invalid\n13 unmap error 1 Invalid\n14 protect error 6 NotMapped\n15 exit ok\nfile a 5\n00000000 68656c6c6f\n",
         ..WHOLE
     },
     Case {
