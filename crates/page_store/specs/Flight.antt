@@ -1,5 +1,5 @@
 -- What is seen of a flight, and what its transfer does. Public clauses cite this.
-use Rattle.std.specs.Prelude.{◌≡◌, ◌<◌, ◌≤◌, ℕ, Bool, true, false, List, [], Option, Result, Ok, Err, OnOk, IfSome, slice_index_or, length}
+use Rattle.std.specs.Prelude.{◌≡◌, ◌<◌, ◌≤◌, ◌==◌, ◌&&◌, ℕ, Bool, true, false, List, [], Option, Some, None, Result, Ok, Err, OnOk, IfSome, slice_index_or, length, not, if◌then◌else◌}
 use Rattle.block_device.specs.DiskSeen.{DiskSeen, with_block, Spoils, HasBlocks}
 use Rattle.block_device.specs.Counts.{HasRisen, HasCause}
 use Rattle.page_hash.specs.declared.PageName.{PageName}
@@ -32,6 +32,10 @@ pub record FlightSeen : Type 0 where
 -- the note of a flight before its transfer
 abbrev pub note_of : FlightSeen → Note
 note_of f = record { seat = f.seat; origin = f.origin; number = f.number; disk = f.disk; writes = f.writes; name = f.name; block = f.block; valid = f.valid; frame = f.frame; bytes = f.bytes }
+
+-- the page of a file that a flight writes, and its block; none for any other transfer
+abbrev pub file_push_of : FlightSeen → Option (PageName × ℕ)
+file_push_of f = if f.writes && not (f.name.object == 64) then Some (f.name, f.block) else None
 
 -- A write left the first valid bytes in its block, with zeros after them; one that failed left some bytes there.
 abbrev pub IsWritten : Note → FlightSeen → Progress → Type 0

@@ -3,10 +3,11 @@ ghost use Rattle.std.specs.Prelude.{◌≡◌, ◌↔◌, ℕ, ◌+◌, ◌<◌,
 ghost use Rattle.block_device.specs.Counts.{HasRisen, HasCause};
 ghost use Rattle.block_device.specs.DiskSeen.{Writes, DiskSeen};
 ghost use Rattle.page_store.specs.Bytes.{clip};
-ghost use Rattle.page_store.specs.Flight.{IsPerformed, note_of, fresh, failed, outcome_of, IsReadClipped};
+ghost use Rattle.page_store.specs.Flight.{IsPerformed, note_of, fresh, failed, outcome_of, IsReadClipped, file_push_of};
 ghost use Rattle.page_store.specs.Seen.{StoreSeen};
 ghost use Rattle.page_store.specs.Out.{IsFlightOf};
 
+use crate::place::SWAP_OBJECT;
 use block_device::{Disk, Failed};
 use core_arena::Frame;
 use page_hash::PageName;
@@ -99,6 +100,17 @@ impl<D: Disk> Flight<D> {
         ensures after { result.2 ≡ self.now.disk.faults }
     {
         (self.number, self.before, self.disk.faults())
+    }
+
+    /// The page of a file that the transfer writes, and its block; none for any other transfer.
+    pub fn file_push(&self) -> Option<(PageName, u32)>
+        ensures { result ≡ file_push_of self.now }
+    {
+        if self.writes && self.name.object != SWAP_OBJECT {
+            Some((self.name, self.block))
+        } else {
+            None
+        }
     }
 }
 
