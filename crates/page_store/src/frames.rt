@@ -135,6 +135,18 @@ pub(crate) fn copy_frame(core: &mut Core, from: u32, to: u32)
     core.bytes_mut(to).copy_from_slice(&page);
 }
 
+/// Writes 4096 bytes over those of a home frame.
+pub(crate) fn fill_frame(core: &mut Core, frame: u32, bytes: &[u8])
+    requires home { IsSome (bytes_at core.old.frames frame) }
+    requires size { length bytes.now ≡ 4096 }
+    ensures { core.new ≡ record core.old {
+      frames = slice_set core.old.frames frame
+          (Some bytes.now);
+    } }
+{
+    core.bytes_mut(frame).copy_from_slice(bytes);
+}
+
 /// Makes the bytes of a home frame zeros.
 pub(crate) fn zero_frame(core: &mut Core, frame: u32)
     requires { IsSome (bytes_at core.old.frames frame) }

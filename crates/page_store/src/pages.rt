@@ -10,7 +10,7 @@ ghost use Rattle.page_store.specs.Seen.{residence, IsListedFrame};
 ghost use Rattle.page_store.specs.Steps.{next_frame, home_bytes, with_piece, after_poke, after_fill, after_abort, after_reclaim};
 ghost use Rattle.page_store.specs.Value.{value};
 
-use crate::frames::{copy_frame, forsake, rename, reset, take_frame, zero_frame};
+use crate::frames::{copy_frame, fill_frame, forsake, rename, reset, take_frame, zero_frame};
 use crate::place::SWAP_OBJECT;
 use crate::residence::Residence;
 use crate::store::Store;
@@ -59,6 +59,22 @@ impl<D: Disk> Store<D> {
         rename(&mut self.names, frame, name);
         reset(&mut self.locks, frame, name.object == SWAP_OBJECT);
         zero_frame(&mut self.core, frame);
+    }
+
+    /// Makes a page with these 4096 bytes for a name that no frame holds. The frame of a slot is modified, that of a file's page is
+    /// not.
+    pub fn fill(&mut self, name: PageName, bytes: &[u8])
+        requires available { IsSome (next_frame self.old) }
+        requires absent { residence self.old name ≡ Residence.Absent }
+        requires size { length bytes.now ≡ 4096 }
+        ensures new { self.new ≡ after_fill self.old name bytes.now (name.object == 64) }
+        ensures laws { FillsPage self.old self.new name (name.object == 64)
+            (λ notes table. bytes.now) }
+    {
+        let frame = take_frame(&mut self.lists);
+        rename(&mut self.names, frame, name);
+        reset(&mut self.locks, frame, name.object == SWAP_OBJECT);
+        fill_frame(&mut self.core, frame, bytes);
     }
 
     /// Makes a slot's page with the bytes of a page that is home.

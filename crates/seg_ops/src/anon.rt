@@ -69,9 +69,7 @@ fn fill_bytes<D: Disk>(store: &mut Store<D>, name: PageName, bytes: &[u8])
     ensures new { store.new ≡ after_fill store.old name bytes.now true }
     ensures laws { FillsPage store.old store.new name true (λ notes table. bytes.now) }
 {
-    store.sound();
-    store.fill_zero(name);
-    store.poke(name, 0, bytes, false);
+    store.fill(name, bytes);
 }
 
 /// Makes a slot for an empty place of a private mapping's map, with these 4096 bytes: the page that the place is for, which has no
