@@ -1,5 +1,5 @@
 -- How marks change. Public clauses cite this.
-use Rattle.std.specs.Prelude.{ℕ, ◌==◌, Bool, true, false, Option, Some, None, map, nat_lt, if◌then◌else◌}
+use Rattle.std.specs.Prelude.{ℕ, ◌==◌, ◌&&◌, true, false, Option, Some, None, map, nat_lt, if◌then◌else◌}
 use Rattle.disk_marks.specs.declared.marks.Mark.TheVariants.{Held, Blank, Unsure}
 use Rattle.disk_marks.specs.declared.marks.MarkRow.{MarkRow}
 use Rattle.disk_marks.specs.declared.marks.Pushing.{Pushing}
@@ -25,13 +25,12 @@ marks_written m seat disk block = with_push (with_mark_row m disk block (row_wri
 abbrev pub marks_spoiled : MarksSeen → ℕ → ℕ → ℕ → ℕ → ℕ → ℕ → MarksSeen
 marks_spoiled m seat disk block j before after = with_push (with_mark_row m disk block (row_spoiled j before after)) seat None
 
--- THE MARK OF A PAGE RISES that isn't modified: after so many entries it is blank, or else its block has it.
-abbrev pub row_raised : Bool → ℕ → MarkRow → MarkRow
-row_raised true j row = record row { mark = Blank j }
-row_raised false j row = record row { mark = Held j }
+-- THE MARK OF A PAGE RISES that isn't modified, and isn't blank: after so many entries its block has it.
+abbrev pub row_raised : ℕ → MarkRow → MarkRow
+row_raised j row = record row { mark = Held j }
 
-abbrev pub marks_raised : MarksSeen → ℕ → ℕ → Bool → ℕ → MarksSeen
-marks_raised m disk block blank j = with_mark_row m disk block (row_raised blank j (mark_row m disk block))
+abbrev pub marks_raised : MarksSeen → ℕ → ℕ → ℕ → MarksSeen
+marks_raised m disk block j = with_mark_row m disk block (row_raised j (mark_row m disk block))
 
 -- A FILE IS CUT: a page that is taken away is past the end after so many entries; of one that stays zeros needn't stand past the new end; and a push of a
 -- page that the file doesn't keep is none any more, while any other of the file began before the cut.
@@ -50,3 +49,14 @@ push_cut file pages (Some push) =
 
 abbrev pub pushes_cut : MarksSeen → ℕ → ℕ → MarksSeen
 pushes_cut m file pages = record m { pushes = map (push_cut file pages) m.pushes }
+
+-- THE MARK OF A BLANK PAGE RISES: after so many entries it is zeros, whatever its block has; and a push of it is none any more.
+abbrev pub push_dropped : ℕ → ℕ → Option Pushing → Option Pushing
+push_dropped file page None = None
+push_dropped file page (Some push) = if push.file == file && push.page == page then None else Some push
+
+abbrev pub pushes_dropped : MarksSeen → ℕ → ℕ → MarksSeen
+pushes_dropped m file page = record m { pushes = map (push_dropped file page) m.pushes }
+
+abbrev pub marks_emptied : MarksSeen → ℕ → ℕ → ℕ → ℕ → ℕ → MarksSeen
+marks_emptied m disk block file page j = pushes_dropped (marks_taken m disk block j) file page

@@ -1,7 +1,7 @@
 //! The marks of all blocks, and the pushes of all seats.
 ghost use Rattle.std.specs.Prelude.{◌≡◌, ◌↔◌, ◌<◌, IsTrue, None, length, map, replicate, IfOk};
 ghost use Rattle.disk_marks.specs.Marks.{HasRow, unused_row, mark_row, push_of, with_mark_row, with_push};
-ghost use Rattle.disk_marks.specs.Changes.{marks_begun, marks_written, marks_spoiled, marks_raised, marks_taken, marks_unpushed, push_cut, pushes_cut};
+ghost use Rattle.disk_marks.specs.Changes.{marks_begun, marks_written, marks_spoiled, marks_raised, marks_taken, marks_unpushed, push_cut, pushes_cut, push_dropped, pushes_dropped, marks_emptied};
 
 use crate::marks::{MarkRow, Pushing};
 use crate::row::Row;
@@ -48,6 +48,16 @@ fn cut(push: Option<Pushing>, file: u32, pages: u32) -> Option<Pushing>
                 ..push
             })
         }
+        _ => push,
+    }
+}
+
+/// A push once a page is known to be blank: none where it is of that page.
+fn dropped(push: Option<Pushing>, file: u32, page: u32) -> Option<Pushing>
+    ensures { result ≡ push_dropped file page push }
+{
+    match push {
+        Some(push) if push.file == file && push.page == page => None,
         _ => push,
     }
 }
@@ -139,17 +149,21 @@ impl DiskMarks {
         self.keep(seat, None);
     }
 
-    /// The mark of a page that isn't modified rises: after so many entries it is blank, or its block has it. Constant time.
-    pub fn raise(&mut self, disk: u32, block: u32, blank: bool, entries: u32)
-        ensures { self.new ≡ marks_raised self.old disk block blank entries }
+    /// The mark of a page rises that isn't modified, and isn't blank: after so many entries its block has it. Constant time.
+    pub fn raise(&mut self, disk: u32, block: u32, entries: u32)
+        ensures { self.new ≡ marks_raised self.old disk block entries }
     {
         let pushed = self.row(disk, block).pushed;
-        let row = if blank {
-            Row::blank(entries, pushed)
-        } else {
-            Row::held(entries, pushed)
-        };
-        self.set(disk, block, row);
+        self.set(disk, block, Row::held(entries, pushed));
+    }
+
+    /// The mark of a blank page rises: after so many entries it is zeros, whatever its block has; and a push of it is none any
+    /// more. Time: the seats.
+    pub fn raise_blank(&mut self, disk: u32, block: u32, file: u32, page: u32, entries: u32)
+        ensures { self.new ≡ marks_emptied self.old disk block file page entries }
+    {
+        self.take_away(disk, block, entries);
+        self.drop_pushes(file, page);
     }
 
     /// The page of a block is taken away from its file, with the entry that makes it so many. Constant time.
@@ -161,11 +175,12 @@ impl DiskMarks {
 
     /// The file of a block was made shorter: that zeros stand past its end isn't known any more. Constant time.
     pub fn forget_zeros(&mut self, disk: u32, block: u32)
-        requires { HasRow self.old disk block }
         ensures { self.new ≡ marks_unpushed self.old disk block }
     {
-        let row = self.rows[disk as usize][block as usize].without_zeros();
-        self.set(disk, block, row);
+        if self.has_row(disk, block) {
+            let row = self.rows[disk as usize][block as usize].without_zeros();
+            self.set(disk, block, row);
+        }
     }
 
     /// A file was made shorter, and keeps so many pages: a push of another of its pages is none any more, and those of its pages
@@ -175,6 +190,15 @@ impl DiskMarks {
     {
         for push in self.pushes.iter_mut() {
             *push = cut(*push, file, pages);
+        }
+    }
+
+    // Each push of the page is none any more.
+    fn drop_pushes(&mut self, file: u32, page: u32)
+        ensures { self.new ≡ pushes_dropped self.old file page }
+    {
+        for push in self.pushes.iter_mut() {
+            *push = dropped(*push, file, page);
         }
     }
 

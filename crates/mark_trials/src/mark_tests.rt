@@ -12,8 +12,10 @@ enum Act {
     End(u32, u32, u32),
     /// The push of a seat to a block fails, after so many entries, with the counts 4 and 5.
     Fail(u32, u32, u32, u32),
-    /// The mark of a block's page, blank or not, rises after so many entries.
-    Raise(u32, u32, bool, u32),
+    /// The mark of a block's page, which isn't blank, rises after so many entries.
+    Raise(u32, u32, u32),
+    /// That of a blank page of a file does.
+    RaiseBlank(u32, u32, u32, u32, u32),
     /// The page of a block is taken away, after so many entries.
     TakeAway(u32, u32, u32),
     /// The file of a block was made shorter.
@@ -59,11 +61,26 @@ fn fail(marks: &mut DiskMarks, seat: u32, disk: u32, block: u32, entries: u32) -
     Told::Yes
 }
 
-fn raise(marks: &mut DiskMarks, disk: u32, block: u32, blank: bool, entries: u32) -> Told {
+fn raise(marks: &mut DiskMarks, disk: u32, block: u32, entries: u32) -> Told {
     if !marks.has_row(disk, block) {
         return Told::No;
     }
-    marks.raise(disk, block, blank, entries);
+    marks.raise(disk, block, entries);
+    Told::Yes
+}
+
+fn raise_blank(
+    marks: &mut DiskMarks,
+    disk: u32,
+    block: u32,
+    file: u32,
+    page: u32,
+    entries: u32,
+) -> Told {
+    if !marks.has_row(disk, block) {
+        return Told::No;
+    }
+    marks.raise_blank(disk, block, file, page, entries);
     Told::Yes
 }
 
@@ -93,7 +110,10 @@ fn make(marks: &mut DiskMarks, act: Act) -> Told {
         Act::Begin(seat, file, page, from) => begin(marks, seat, file, page, from),
         Act::End(seat, disk, block) => end(marks, seat, disk, block),
         Act::Fail(seat, disk, block, entries) => fail(marks, seat, disk, block, entries),
-        Act::Raise(disk, block, blank, entries) => raise(marks, disk, block, blank, entries),
+        Act::Raise(disk, block, entries) => raise(marks, disk, block, entries),
+        Act::RaiseBlank(disk, block, file, page, entries) => {
+            raise_blank(marks, disk, block, file, page, entries)
+        }
         Act::TakeAway(disk, block, entries) => take_away(marks, disk, block, entries),
         Act::ForgetZeros(disk, block) => forget_zeros(marks, disk, block),
         Act::CutPushes(file, pages) => {
@@ -167,11 +187,9 @@ fn a_push_leaves_the_mark_of_its_begin(rt: HostRuntime) -> Result<(), Fail> {
             (Act::Row(1, 0), Told::Row(Mark::Blank(0), false)),
             (Act::Push(1), NO_PUSH),
             // A mark that rises keeps what is known of zeros past the end.
-            (Act::Raise(0, 2, false, 20), Told::Yes),
+            (Act::Raise(0, 2, 20), Told::Yes),
             (Act::Row(0, 2), Told::Row(Mark::Held(20), true)),
-            (Act::Raise(1, 1, true, 21), Told::Yes),
-            (Act::Row(1, 1), Told::Row(Mark::Blank(21), false)),
-            (Act::Raise(1, 2, true, 21), Told::No),
+            (Act::Raise(1, 2, 20), Told::No),
         ],
     )
 }
@@ -202,6 +220,29 @@ fn a_file_is_cut_while_its_pages_are_pushed(rt: HostRuntime) -> Result<(), Fail>
             (Act::Row(0, 0), Told::Row(Mark::Held(30), false)),
             (Act::TakeAway(0, 3, 33), Told::No),
             (Act::ForgetZeros(1, 2), Told::No),
+        ],
+    )
+}
+
+#[test]
+fn a_blank_page_is_raised_and_its_pushes_are_dropped(rt: HostRuntime) -> Result<(), Fail> {
+    make_in_new_marks(
+        rt.alloc(),
+        &[
+            (Act::Begin(0, 7, 1, 10), Told::Yes),
+            (Act::End(0, 1, 1), Told::Yes),
+            (Act::Row(1, 1), Told::Row(Mark::Held(10), true)),
+            (Act::Begin(0, 7, 1, 12), Told::Yes),
+            (Act::Begin(1, 7, 2, 13), Told::Yes),
+            // Nothing is known of zeros past the end then. Another page's push stays, and so does another file's.
+            (Act::RaiseBlank(1, 1, 7, 1, 21), Told::Yes),
+            (Act::Row(1, 1), Told::Row(Mark::Blank(21), false)),
+            (Act::Push(0), NO_PUSH),
+            (Act::Push(1), pushing(7, 2, 13, true)),
+            (Act::RaiseBlank(1, 0, 8, 2, 22), Told::Yes),
+            (Act::Row(1, 0), Told::Row(Mark::Blank(22), false)),
+            (Act::Push(1), pushing(7, 2, 13, true)),
+            (Act::RaiseBlank(1, 2, 7, 2, 23), Told::No),
         ],
     )
 }
