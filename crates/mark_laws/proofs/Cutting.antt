@@ -1,5 +1,5 @@
 -- The rows and the pushes of a file that is cut.
-use Rattle.std.proofs.Common.{◌≡◌, ◌≢◌, ℕ, zero, suc, ◌<◌, ◌≤◌, false, List, [], ◌∷◌, map, Option, Some, None, refl, sym, ap, subst, ◌∙◌, ◌⊎◌, inl, inr, arith}
+use Rattle.std.proofs.Common.{◌≡◌, ◌≢◌, ℕ, zero, suc, ◌<◌, ◌≤◌, Bool, true, false, List, [], ◌∷◌, length, map, take, Option, Some, None, refl, sym, ap, subst, ◌∙◌, ◌⊎◌, inl, inr, arith}
 use Rattle.std.specs.Prelude.{slice_get, slice_index_or, slice_set}
 use Rattle.disk_marks.specs.declared.marks.Mark.TheVariants.{Blank}
 use Rattle.disk_marks.specs.declared.marks.MarkRow.{MarkRow}
@@ -99,11 +99,11 @@ cut-pushes disk pages j [] m = refl
 cut-pushes disk zero j (x ∷ xs) m = cut-pushes disk zero j xs (marks_taken m disk x j)
 cut-pushes disk (suc pages) j (x ∷ xs) m = cut-pushes disk pages j xs (marks_unpushed m disk x)
 
-push-map : (f pages : ℕ) (ps : List (Option Pushing)) (seat : ℕ) → slice_index_or (map (push_cut f pages) ps) seat None ≡ push_cut f pages (slice_index_or ps seat None)
-push-map f pages [] seat = refl
-push-map f pages (p ∷ ps) zero = refl
-push-map f pages (p ∷ ps) (suc seat) = push-map f pages ps seat
+pub push-map : (g : Option Pushing → Option Pushing) → g None ≡ None → (ps : List (Option Pushing)) (seat : ℕ) → slice_index_or (map g ps) seat None ≡ g (slice_index_or ps seat None)
+push-map g none [] seat = sym none
+push-map g none (p ∷ ps) zero = refl
+push-map g none (p ∷ ps) (suc seat) = push-map g none ps seat
 
 pub cut-push : (m : MarksSeen) (f disk pages j : ℕ) (blocks : List ℕ) (seat : ℕ) → push_of (marks_cut m f disk pages j blocks) seat ≡ push_cut f pages (push_of m seat)
 cut-push m f disk pages j blocks seat =
-    ap (λ (ps : List (Option Pushing)). slice_index_or (map (push_cut f pages) ps) seat None) (cut-pushes disk pages j blocks m) ∙ push-map f pages m.pushes seat
+    ap (λ (ps : List (Option Pushing)). slice_index_or (map (push_cut f pages) ps) seat None) (cut-pushes disk pages j blocks m) ∙ push-map (push_cut f pages) refl m.pushes seat

@@ -1,5 +1,5 @@
 -- The failures that marks name.
-use Rattle.std.proofs.Common.{◌≡◌, ◌≢◌, ℕ, zero, suc, List, [], ◌∷◌, ◌<◌, ◌≤◌, ◌-◌, ◌^◌, Bool, true, false, Option, Some, None, sym, ap, ◌∙◌, ◌⊎◌, inl, inr, subst, arith}
+use Rattle.std.proofs.Common.{◌≡◌, ◌≢◌, ℕ, zero, suc, List, [], ◌∷◌, ◌<◌, ◌≤◌, ◌+◌, ◌-◌, ◌^◌, min, Bool, true, false, Option, Some, None, refl, sym, ap, ◌∙◌, ◌⊎◌, inl, inr, subst, arith}
 use Rattle.std.proofs.lemmas.Bool.{cases_eq}
 use Rattle.flat_model.specs.Counted.{top_count}
 use Rattle.page_store.specs.block_device.Counts.{HasRisen}
@@ -40,12 +40,14 @@ written faults m seat disk block fits = by_push (push_of m seat)
     by_push (Some push) = with-row faults m disk block (record { mark = Held push.from; pushed = push.whole }) fits
         (λ j before after is. absurd (let z : Held push.from ≡ Unsure j before after = is in cc))
 
-raised : (faults : ℕ → Option ℕ) (m : MarksSeen) (disk block i : ℕ) (blank : Bool) → FailuresFit faults m
-    → FailuresFit faults (with_mark_row m disk block (row_raised blank i (mark_row m disk block)))
-raised faults m disk block i true fits = with-row faults m disk block (row_raised true i (mark_row m disk block)) fits
-    (λ j before after is. absurd (let z : Blank i ≡ Unsure j before after = is in cc))
-raised faults m disk block i false fits = with-row faults m disk block (row_raised false i (mark_row m disk block)) fits
+raised : (faults : ℕ → Option ℕ) (m : MarksSeen) (disk block i : ℕ) → FailuresFit faults m
+    → FailuresFit faults (with_mark_row m disk block (row_raised i (mark_row m disk block)))
+raised faults m disk block i fits = with-row faults m disk block (row_raised i (mark_row m disk block)) fits
     (λ j before after is. absurd (let z : Held i ≡ Unsure j before after = is in cc))
+
+taken : (faults : ℕ → Option ℕ) (m : MarksSeen) (disk block i : ℕ) → FailuresFit faults m → FailuresFit faults (marks_taken m disk block i)
+taken faults m disk block i fits = with-row faults m disk block (row_taken i) fits
+    (λ j before after is. absurd (let z : Blank i ≡ Unsure j before after = is in cc))
 
 -- a count that rose by a failure: it is higher, or at the end of counts
 rise : (a b : ℕ) → HasRisen a b → a ≤ b → b ≤ top_count → (a < b) ⊎ ((a ≡ top_count) × (b ≡ top_count))
@@ -75,8 +77,7 @@ spoiled faults m disk block i before after fits risen later most counted = with-
 -- A FILE IS CUT: its rows name no other failures
 cut : (faults : ℕ → Option ℕ) (disk pages j : ℕ) (blocks : List ℕ) (m : MarksSeen) → FailuresFit faults m → FailuresFit faults (rows_cut disk pages j blocks m)
 cut faults disk pages j [] m fits = fits
-cut faults disk zero j (x ∷ xs) m fits = cut faults disk zero j xs (marks_taken m disk x j)
-    (with-row faults m disk x (row_taken j) fits (λ i before after is. absurd (let z : Blank j ≡ Unsure i before after = is in cc)))
+cut faults disk zero j (x ∷ xs) m fits = cut faults disk zero j xs (marks_taken m disk x j) (taken faults m disk x j fits)
 cut faults disk (suc pages) j (x ∷ xs) m fits = cut faults disk pages j xs (marks_unpushed m disk x)
     (with-row faults m disk x (row_unpushed (mark_row m disk x)) fits (λ i before after is. fits disk x i before after is))
 
@@ -85,7 +86,8 @@ failures_rule = record {
   keep = kept;
   begins = λ faults m seat file page from fits. fits;
   written = λ faults m seat disk block fits. written faults m seat disk block fits;
-  raised = λ faults m disk block j blank fits. raised faults m disk block j blank fits;
+  raised = λ faults m disk block j fits. raised faults m disk block j fits;
+  emptied = λ faults m disk block file page j fits. taken faults m disk block j fits;
   cut = λ faults m f disk pages j blocks fits. cut faults disk pages j blocks m fits;
   spoiled = λ faults m seat disk block j before after fits risen later most counted. spoiled faults m disk block j before after fits risen later most counted;
 }

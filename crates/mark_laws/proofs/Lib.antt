@@ -6,6 +6,7 @@ pub mod FilesStay
 pub mod Along
 pub mod Shortenings
 pub mod Cutting
+pub mod Dropping
 pub mod Spots
 pub mod Beginning
 pub mod Ending

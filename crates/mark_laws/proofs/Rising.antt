@@ -13,13 +13,16 @@ use Rattle.disk_marks.specs.declared.marks.Mark.TheVariants.{Held, Blank, Unsure
 use Rattle.disk_marks.specs.declared.marks.MarkRow.{MarkRow}
 use Rattle.disk_marks.specs.declared.marks.Pushing.{Pushing}
 use Rattle.disk_marks.specs.Marks.{MarksSeen, HasRow, mark_row, push_of, with_mark_row}
-use Rattle.disk_marks.specs.Changes.{row_raised, marks_raised}
+use Rattle.disk_marks.specs.Changes.{row_raised, marks_raised, marks_taken, marks_emptied}
 use Rattle.mark_laws.specs.Pages.{after_first, bytes_there, page_there, disk_place, HasPage, HavePlacesApart}
 use Rattle.mark_laws.specs.Syncs.{entries_in, HasSynced, ReachesDisk}
 use Rattle.mark_laws.specs.MarksFit.{DiskContents, OfBlock, IsBeingWritten, BlockFits, IsDropped, SentFits, MarksFit}
 use Rattle.mark_laws.specs.RaiseLaws.{RaisesLaw}
 use Rattle.disk_marks.proofs.Rows.{row-other, row-there}
-use Rattle.mark_laws.proofs.Words.{held-inj, blank-inj, told-map, all-entries}
+use Rattle.mark_laws.proofs.Cutting.{row_taken}
+use Rattle.mark_laws.proofs.Dropping.{drops, left-push}
+use Rattle.mark_laws.proofs.Rows.{told-all}
+use Rattle.mark_laws.proofs.Words.{held-inj, blank-inj, all-entries}
 use Rattle.mark_laws.proofs.Spots.{at-place, by-name, block-here}
 use Rattle.mark_laws.proofs.Ending.{starts-first}
 
@@ -74,8 +77,8 @@ module _ (opening : Flat) (H : List Entry) (contents : DiskContents) (notes : No
 
   -- A page that isn't being written: its block has it.
   pub raised-held : ¬ IsBeingWritten notes name → OfBlock contents disk block (λ bytes. clip (bytes_there (replay opening H) name) bytes ≡ page_there (replay opening H) name)
-      → MarksFit opening H contents notes (marks_raised m disk block false (length H))
-  raised-held unwritten same = rises (row_raised false (length H) (mark_row m disk block)) refl
+      → MarksFit opening H contents notes (marks_raised m disk block (length H))
+  raised-held unwritten same = rises (row_raised (length H) (mark_row m disk block)) refl
       (λ free. told-both (contents disk) (fit.blocks name disk block at free) same)
       (λ j is. absurd (let z : Held (length H) ≡ Blank j = is in cc))
       (λ j x y is. let z : Held (length H) ≡ Unsure j x y = is in cc)
@@ -83,7 +86,7 @@ module _ (opening : Flat) (H : List Entry) (contents : DiskContents) (notes : No
     where
       told-both : (o : Option (List (List ℕ))) → IfSome o (λ blocks. BlockFits opening H name (mark_row m disk block) (slice_index_or blocks block []))
           → IfSome o (λ blocks. clip (bytes_there (replay opening H) name) (slice_index_or blocks block []) ≡ page_there (replay opening H) name)
-          → IfSome o (λ blocks. BlockFits opening H name (row_raised false (length H) (mark_row m disk block)) (slice_index_or blocks block []))
+          → IfSome o (λ blocks. BlockFits opening H name (row_raised (length H) (mark_row m disk block)) (slice_index_or blocks block []))
       told-both None f s = tt
       told-both (Some blocks) f s = record {
         held = λ j is. subst (λ (F : Flat). HasPage F name (mark_row m disk block).pushed (slice_index_or blocks block [])) (sym (all-entries opening H) ∙ ap (after_first opening H) (held-inj (length H) j is)) (record {
@@ -93,17 +96,28 @@ module _ (opening : Flat) (H : List Entry) (contents : DiskContents) (notes : No
         zeros = f.zeros;
       }
 
-  -- A page that is zeros.
-  pub raised-blank : page_there (replay opening H) name ≡ zeros → MarksFit opening H contents notes (marks_raised m disk block true (length H))
-  raised-blank is_zeros = rises (row_raised true (length H) (mark_row m disk block)) refl
-      (λ free. told-map (BlockFits opening H name (mark_row m disk block)) (BlockFits opening H name (row_raised true (length H) (mark_row m disk block)))
-      (λ bytes f. record { held = λ j is. absurd (let z : Blank (length H) ≡ Held j = is in cc); zeros = f.zeros }) block (contents disk) (fit.blocks name disk block at free))
-      (λ j is. ap (λ (k : ℕ). page_there (after_first opening H k) name) (sym (blank-inj (length H) j is)) ∙ ap (λ (F : Flat). page_there F name) (all-entries opening H) ∙ is_zeros)
-      (λ j x y is. let z : Blank (length H) ≡ Unsure j x y = is in cc)
-      (λ k note is writes e s. record { unheld = λ j z. let y : Blank (length H) ≡ Held j = z in cc; unpushed = s.unpushed })
+  -- A page that is zeros; its pushes are dropped.
+  module _ (is_zeros : page_there (replay opening H) name ≡ zeros) where
+    dropped : IsDropped (row_taken (length H))
+    dropped = record { unheld = λ j z. let y : Blank (length H) ≡ Held j = z in cc; unpushed = refl }
+
+    taken : MarksFit opening H contents notes (marks_taken m disk block (length H))
+    taken = rises (row_taken (length H)) refl
+        (λ free. told-all (BlockFits opening H name (row_taken (length H))) block (contents disk) (λ blocks _. record {
+          held = λ j is. absurd (let z : Blank (length H) ≡ Held j = is in cc);
+          zeros = λ z. absurd (let y : false ≡ true = z in cc);
+        }))
+        (λ j is. ap (λ (k : ℕ). page_there (after_first opening H k) name) (sym (blank-inj (length H) j is)) ∙ ap (λ (F : Flat). page_there F name) (all-entries opening H) ∙ is_zeros)
+        (λ j x y is. let z : Blank (length H) ≡ Unsure j x y = is in cc)
+        (λ k note is writes e s. dropped)
+
+    pub raised-blank : MarksFit opening H contents notes (marks_emptied m disk block name.object name.page (length H))
+    raised-blank = drops opening H contents notes (marks_taken m disk block (length H)) name taken
+        (λ d c a. by-name (replay opening H) apart m name disk block at (fit.there name disk block at) (row_taken (length H)) IsDropped name d c a (λ _. dropped) (λ other. absurd (other refl)))
 
 pub raises_rule : RaisesLaw
 raises_rule = record {
   held = λ opening H contents notes m name disk block fit legal apart at unwritten same. raised-held opening H contents notes m name disk block fit legal apart at unwritten same;
   blank = λ opening H contents notes m name disk block fit legal apart at is_zeros. raised-blank opening H contents notes m name disk block fit legal apart at is_zeros;
+  still = λ m name disk block j seat push is. (left-push (marks_taken m disk block j) name seat push is).1;
 }

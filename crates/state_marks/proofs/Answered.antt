@@ -42,44 +42,8 @@ use Rattle.vm_world.proofs.FlatWhole.{some-inj}
 use Rattle.vm_world.proofs.PageNames.{info-there, file-there}
 use Rattle.state_marks.specs.StateMarks.{PagesFit, MarksOf}
 use Rattle.state_marks.specs.StateEntries.{marks_answered, MakesEntry, StateEntriesLaw}
-use Rattle.state_marks.proofs.Places.{cleared, places-apart}
-
--- what isn't a page's bytes of a file, by its record
-record HasInfo (old : File) (info : FileInfo) : Type 0 where
-  len : old.len ≡ info.length
-  on : old.disk ≡ info.disk
-  extents : old.extents ≡ info.extents
-
-by-info : (page : ℕ → Page) (b : Bool) (o : Option File) (p : Option FileInfo) → option_map (λ (file : File). cond b (without_tail file) file) o ≡ option_map (file_with_pages page) p
-    → (old : File) → o ≡ Some old → (info : FileInfo) × (p ≡ Some info) × HasInfo old info
-by-info page b None p is old e = absurd (let z : ◌≡◌ {A = Option File} None (Some old) = e in cc)
-by-info page b (Some file) None is old e = absurd (let z : ◌≡◌ {A = Option File} (Some (cond b (without_tail file) file)) None = is in cc)
-by-info page true (Some file) (Some info) is old e =
-    let same = some-inj (without_tail file) (file_with_pages page info) is in
-    let own = some-inj file old e in (
-      info,
-      refl,
-      record {
-        len = sym (ap (λ (x : File). x.len) own) ∙ ap (λ (x : File). x.len) same;
-        on = sym (ap (λ (x : File). x.disk) own) ∙ ap (λ (x : File). x.disk) same;
-        extents = sym (ap (λ (x : File). x.extents) own) ∙ ap (λ (x : File). x.extents) same;
-      },
-    )
-by-info page false (Some file) (Some info) is old e =
-    let same = some-inj file (file_with_pages page info) is in
-    let own = some-inj file old e in (
-      info,
-      refl,
-      record {
-        len = sym (ap (λ (x : File). x.len) own) ∙ ap (λ (x : File). x.len) same;
-        on = sym (ap (λ (x : File). x.disk) own) ∙ ap (λ (x : File). x.disk) same;
-        extents = sym (ap (λ (x : File). x.extents) own) ∙ ap (λ (x : File). x.extents) same;
-      },
-    )
-
-some-file : (page : ℕ → Page) (b : Bool) (o : Option File) (info : FileInfo) → option_map (λ (file : File). cond b (without_tail file) file) o ≡ Some (file_with_pages page info) → (old : File) × (o ≡ Some old)
-some-file page b None info is = absurd (let z : ◌≡◌ {A = Option File} None (Some (file_with_pages page info)) = is in cc)
-some-file page b (Some file) info is = (file, refl)
+use Rattle.state_marks.proofs.FilesNow.{info-of, file-of}
+use Rattle.state_marks.proofs.Places.{places-apart}
 
 -- a file that isn't there has no bytes
 no-length : (xs : List VnodeSeen) (f : ℕ) → length xs ≤ f → slice_index_or xs f no_vnode ≡ no_vnode
@@ -115,18 +79,6 @@ module _ (opening : Flat) (s new : KernelState) (e : Entry) (seats : Seats) (m :
 
   apart : HavePlacesApart (replay opening s.history)
   apart = places-apart s.memory s.born notes opening s.history s.pending h fit.memory.files
-
-  -- a file by the history is the one that is there
-  info-of : (f : ℕ) (old : File) → slice_get F.files f ≡ Some old → HasInfo old (vnode_at files f).info
-  info-of f old at =
-      let i = by-info ((contents_of s.memory.world notes).file f) (is_bit_set s.pending f) (slice_get F.files f) (slice_get (map (λ (v : VnodeSeen). v.info) files.files) f)
-      (cleared s.memory s.born notes opening s.history s.pending h f) old at in
-      subst (HasInfo old) (sym (info-there files f i.0 i.1).1) i.2
-
-  file-of : (f : ℕ) → f < length files.files → (old : File) × (slice_get F.files f ≡ Some old)
-  file-of f lt = some-file ((contents_of s.memory.world notes).file f) (is_bit_set s.pending f) (slice_get F.files f) (vnode_at files f).info
-      (cleared s.memory s.born notes opening s.history s.pending h f
-      ∙ ap (option_map (file_with_pages ((contents_of s.memory.world notes).file f))) (slice_get-map (λ (v : VnodeSeen). v.info) files.files f ∙ ap (option_map (λ (v : VnodeSeen). v.info)) (file-there files f lt)))
 
   abbrev Fits : MarksSeen → Type 0
   Fits n = MarksFit opening (s.history ++ e ∷ []) (content_of s.memory.world.store notes) notes n
@@ -172,8 +124,8 @@ module _ (opening : Flat) (s new : KernelState) (e : Entry) (seats : Seats) (m :
       shortened : nat_lt len info.length ≡ true → Fits (marks_shortened m f info.disk info.extents info.length len j)
       shortened less =
           let lt = ltb-true len info.length less in
-          let old = file-of f (there lt) in
-          let i = info-of f old.0 old.1 in
+          let old = file-of opening s seats fit told f (there lt) in
+          let i = (info-of opening s seats fit told f old.0 old.1).1 in
           let c = cuts_rule.cuts F e f old.0 len is (record { call = call; done = done; was = old.1; less = let size = i.len in omega (arith, lt, size) }) in
           subst (λ (x : ℕ). Fits (marks_shortened m f info.disk info.extents x len j)) i.len
           (subst (λ (x : List Extent). Fits (marks_shortened m f info.disk x old.0.len len j)) i.extents
@@ -197,7 +149,7 @@ module _ (opening : Flat) (s new : KernelState) (e : Entry) (seats : Seats) (m :
           let same : Truncate f len ≡ Truncate c.f c.new.len = sym call ∙ o.call in
           let own : c.f ≡ f = cc in
           let size : c.new.len ≡ len = cc in
-          let i = (info-of c.f c.old c.was).len in
+          let i = (info-of opening s seats fit told c.f c.old c.was).1.len in
           let length_is : c.old.len ≡ info.length = i ∙ ap (λ (k : ℕ). (vnode_at files k).info.length) own in
           let le = ltb-false len info.length more in
           let less = c.less in

@@ -4,4 +4,6 @@ pub mod Moving
 pub mod OpeningRows
 pub mod Raised
 pub mod Failed
+pub mod FilesNow
 pub mod Answered
+pub mod Synced

@@ -37,7 +37,7 @@ use Rattle.vm_world.specs.State.{KernelState, Seats, notes_of}
 use Rattle.vm_world.specs.World.{World, world_table, page_exists, is_page_name, is_unpushed, file_blocks, AllTell}
 use Rattle.mark_laws.specs.disk_marks.declared.marks.Pushing.{Pushing}
 use Rattle.mark_laws.specs.disk_marks.Marks.{MarksSeen, push_of}
-use Rattle.mark_laws.specs.disk_marks.Changes.{marks_raised}
+use Rattle.mark_laws.specs.disk_marks.Changes.{marks_raised, marks_emptied}
 use Rattle.mark_laws.specs.Pages.{bytes_there, page_there, disk_place, HavePlacesApart}
 use Rattle.mark_laws.specs.MarksFit.{pushed_page, IsBeingWritten, MarksFit}
 use Rattle.mark_laws.proofs.Rising.{raises_rule}
@@ -193,6 +193,12 @@ module _ (opening : Flat) (s : KernelState) (seats : Seats) (m : MarksSeen) (nam
   apart = places-apart s.memory s.born notes opening s.history s.pending h fit.memory.files
 
   -- THE MARK RISES.
+  abbrev emptied : MarksSeen
+  emptied = marks_emptied m (world_table s.memory.world name).disk (world_table s.memory.world name).block name.object name.page (length s.history)
+
+  abbrev held : MarksSeen
+  held = marks_raised m (world_table s.memory.world name).disk (world_table s.memory.world name).block (length s.history)
+
   pub raised : MarksFit opening s.history (content_of w.store notes) notes (marks_risen w m name (length s.history))
   raised = by_blank (is_unpushed w.files w.anon name) refl
     where
@@ -201,22 +207,23 @@ module _ (opening : Flat) (s : KernelState) (seats : Seats) (m : MarksSeen) (nam
       told None e pushed = tt
       told (Some blocks) e pushed = has-block pushed blocks e
 
-      by_blank : (b : Bool) → is_unpushed w.files w.anon name ≡ b
-          → MarksFit opening s.history (content_of w.store notes) notes (marks_raised m (world_table w name).disk (world_table w name).block (is_unpushed w.files w.anon name) (length s.history))
-      by_blank true e = subst (λ (b : Bool). MarksFit opening s.history (content_of w.store notes) notes (marks_raised m (world_table w name).disk (world_table w name).block b (length s.history))) (sym e)
-          (raises_rule.blank opening s.history (content_of w.store notes) notes m name (world_table w name).disk (world_table w name).block (marks tell) h.legal apart at (is-zeros e))
-      by_blank false e = subst (λ (b : Bool). MarksFit opening s.history (content_of w.store notes) notes (marks_raised m (world_table w name).disk (world_table w name).block b (length s.history))) (sym e)
-          (raises_rule.held opening s.history (content_of w.store notes) notes m name (world_table w name).disk (world_table w name).block (marks tell) h.legal apart at (unwritten e)
-          (told (content_of w.store notes (world_table w name).disk) refl e))
+      by_blank : (b : Bool) → is_unpushed w.files w.anon name ≡ b → MarksFit opening s.history (content_of w.store notes) notes (cond b emptied held)
+      by_blank true e = raises_rule.blank opening s.history (content_of w.store notes) notes m name (world_table w name).disk (world_table w name).block (marks tell) h.legal apart at (is-zeros e)
+      by_blank false e = raises_rule.held opening s.history (content_of w.store notes) notes m name (world_table w name).disk (world_table w name).block (marks tell) h.legal apart at (unwritten e)
+          (told (content_of w.store notes (world_table w name).disk) refl e)
 
-  -- No push of it is out, where it isn't blank.
-  pub none-out : is_unpushed w.files w.anon name ≡ false → (seat : ℕ) (push : Pushing) → push_of m seat ≡ Some push → pushed_page push ≢ name
-  none-out pushed seat push is named =
-      let o = (marks tell).out seat push is in
-      unwritten pushed (seat, o.note, o.there, o.pushes.writes, o.name ∙ named)
+  -- No push of it is kept.
+  pub none-out : (seat : ℕ) (push : Pushing) → push_of (marks_risen w m name (length s.history)) seat ≡ Some push → pushed_page push ≢ name
+  none-out seat push = by_blank (is_unpushed w.files w.anon name) refl
+    where
+      by_blank : (b : Bool) → is_unpushed w.files w.anon name ≡ b → push_of (cond b emptied held) seat ≡ Some push → pushed_page push ≢ name
+      by_blank true e is = raises_rule.still m name (world_table w name).disk (world_table w name).block (length s.history) seat push is
+      by_blank false e is = λ named.
+          let o = (marks tell).out seat push is in
+          unwritten e (seat, o.note, o.there, o.pushes.writes, o.name ∙ named)
 
 pub state_raise_rule : StateRaiseLaw
 state_raise_rule = record {
   raises = λ opening s seats m name fit marks may tell. raised opening s seats m name fit marks may tell;
-  still = λ opening s seats m name fit marks may tell pushed. none-out opening s seats m name fit marks may tell pushed;
+  still = λ opening s seats m name fit marks may tell seat push is. none-out opening s seats m name fit marks may tell seat push is;
 }

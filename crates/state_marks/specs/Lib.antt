@@ -1,3 +1,4 @@
 pub mod StateMarks
 pub mod OpeningMarks
 pub mod StateEntries
+pub mod StateSyncs

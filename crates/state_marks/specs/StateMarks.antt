@@ -1,5 +1,5 @@
 -- The marks of a state, and how transfers and raises keep them true. Public clauses cite this.
-use Rattle.std.specs.Prelude.{◌≡◌, ◌≢◌, ◌<◌, ◌==◌, ◌&&◌, ℕ, Bool, length, not, if◌then◌else◌, Some, None, IsTrue, IsFalse}
+use Rattle.std.specs.Prelude.{◌≡◌, ◌≢◌, ◌<◌, ◌==◌, ◌&&◌, ℕ, Bool, length, not, if◌then◌else◌, Some, None, IsTrue}
 use Rattle.vm_world.specs.flat_model.Flat.{Flat}
 use Rattle.page_store.specs.core_arena.Bytes.{bytes_at}
 use Rattle.page_store.specs.page_hash.Names.{name_at}
@@ -10,7 +10,7 @@ use Rattle.page_store.specs.Notes.{Note}
 use Rattle.page_store.specs.Value.{content_of}
 use Rattle.mark_laws.specs.disk_marks.declared.marks.Pushing.{Pushing}
 use Rattle.mark_laws.specs.disk_marks.Marks.{MarksSeen, push_of}
-use Rattle.mark_laws.specs.disk_marks.Changes.{marks_begun, marks_raised}
+use Rattle.mark_laws.specs.disk_marks.Changes.{marks_begun, marks_raised, marks_emptied}
 use Rattle.mark_laws.specs.MarksFit.{pushed_page, PushesFile, MarksFit, FailuresFit}
 use Rattle.mark_laws.specs.MarkLaws.{marks_by}
 use Rattle.vm_world.specs.DiskPlaces.{faults_in}
@@ -73,19 +73,20 @@ pub record MayRise (w : World) (name : PageName) : Type 0 where
   pub exists : IsTrue (page_exists w.files w.anon name)
   pub clean : IsCleanPage w name
 
--- The marks with that of a page raised.
+-- The marks with that of a page raised; of a blank one the pushes are dropped.
 abbrev pub marks_risen : World → MarksSeen → PageName → ℕ → MarksSeen
-marks_risen w m name j = marks_raised m (world_table w name).disk (world_table w name).block (is_unpushed w.files w.anon name) j
+marks_risen w m name j =
+    let place = world_table w name in
+    if is_unpushed w.files w.anon name then marks_emptied m place.disk place.block name.object name.page j else marks_raised m place.disk place.block j
 
--- THE MARKS STAY TRUE as that of such a page rises; and where the page isn't blank, no push of it is out.
+-- THE MARKS STAY TRUE as that of such a page rises; and no push of it is kept then.
 pub record StateRaiseLaw : Type 0 where
   pub raises : (opening : Flat) (s : KernelState) (seats : Seats) (m : MarksSeen) (name : PageName)
       → PagesFit opening s seats → MarksOf opening s seats m → MayRise s.memory.world name
       → MarksOf opening s seats (marks_risen s.memory.world m name (length s.history))
   pub still : (opening : Flat) (s : KernelState) (seats : Seats) (m : MarksSeen) (name : PageName)
       → PagesFit opening s seats → MarksOf opening s seats m → MayRise s.memory.world name → AllTell s.memory.world (notes_of seats)
-      → IsFalse (is_unpushed s.memory.world.files s.memory.world.anon name)
-      → (seat : ℕ) (push : Pushing) → push_of m seat ≡ Some push → pushed_page push ≢ name
+      → (seat : ℕ) (push : Pushing) → push_of (marks_risen s.memory.world m name (length s.history)) seat ≡ Some push → pushed_page push ≢ name
 
 -- THE FAILURES STAY TRUE as a disk leaves and comes back, whatever the flight did; and the failure of a push that it met is named.
 pub record StateFailuresLaw : Type 0 where

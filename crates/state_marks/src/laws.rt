@@ -1,6 +1,7 @@
 //! The laws.
 ghost use Rattle.state_marks.specs.OpeningMarks.{OpeningMarksLaw};
 ghost use Rattle.state_marks.specs.StateEntries.{StateEntriesLaw};
+ghost use Rattle.state_marks.specs.StateSyncs.{StateSyncLaw};
 ghost use Rattle.state_marks.specs.StateMarks.{StateFailuresLaw, StateMarksLaw, StateRaiseLaw};
 
 /// The marks at the opening are true.
@@ -31,4 +32,10 @@ pub fn state_failures_law()
 #[tactic(auto, using(crate::proofs::Answered::state_entries_rule))]
 pub fn state_entries_law()
     ensures { StateEntriesLaw }
+{}
+
+/// They stay true with a Sync that answers, which raised the marks of its pages; and so do the failures.
+#[tactic(auto, using(crate::proofs::Synced::state_sync_rule))]
+pub fn state_sync_law()
+    ensures { StateSyncLaw }
 {}

@@ -5,4 +5,5 @@ mod laws;
 
 pub use laws::{
     opening_marks_law, state_entries_law, state_failures_law, state_marks_law, state_raise_law,
+    state_sync_law,
 };
