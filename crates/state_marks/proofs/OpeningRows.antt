@@ -39,7 +39,8 @@ use Rattle.mark_laws.specs.Syncs.{entries_in}
 use Rattle.mark_laws.specs.MarksFit.{BlockFits, MarksFit}
 use Rattle.mark_laws.proofs.Rows.{told-all}
 use Rattle.mark_laws.proofs.Words.{few-bytes, held-inj, blank-inj}
-use Rattle.state_marks.specs.OpeningMarks.{AreOpeningMarks, OpeningMarksLaw, opening_row}
+use Rattle.vm_world.specs.Marks.{AreOpeningMarks, opening_row}
+use Rattle.state_marks.specs.OpeningMarks.{OpeningMarksLaw}
 use Rattle.page_store.proofs.page_hash.NameLaws.{find-at}
 use Rattle.vm_world.proofs.FilePages.{file-in, length-pages_from}
 use Rattle.vm_world.proofs.FlatWhole.{some-inj}

@@ -43,6 +43,7 @@ use Rattle.seg_ops.specs.vm_world.MemoryFits.{MemoryFits}
 use Rattle.seg_ops.specs.vm_world.NotesFit.{NotesFit}
 use Rattle.seg_ops.specs.vm_world.Opening.{IsIdleStore, no_seats}
 use Rattle.seg_ops.specs.vm_world.Segments.{Spaces, segments_of, spot_at, zero_map}
+use Rattle.seg_ops.specs.vm_world.Marks.{no_marks}
 use Rattle.seg_ops.specs.vm_world.State.{KernelState, is_top}
 use Rattle.seg_ops.specs.vm_world.StateFits.{StateFits}
 use Rattle.seg_ops.specs.vm_world.World.{World, file_blocks, file_name}
@@ -290,7 +291,7 @@ trial-fits w f = record {
 }
   where
     s : KernelState
-    s = record { memory = record { world = w; spaces = finite.empty }; born = set.empty; history = []; pending = 0; calls = []; syncs = []; plan = None; parents = []; entries = [] }
+    s = record { memory = record { world = w; spaces = finite.empty }; born = set.empty; history = []; pending = 0; calls = []; syncs = []; plan = None; parents = []; entries = []; marks = no_marks }
 
     none : length w.anon.counts ≡ 0
     none = ap (λ (a : AnonSlotsSeen). length a.counts) f.anon

@@ -16,6 +16,7 @@ use Rattle.page_store.specs.Notes.{Note}
 use Rattle.page_store.specs.Seen.{StoreSeen}
 use Rattle.flat_model.specs.vnode_files.Files.{no_files}
 use Rattle.flat_model.specs.Words.{Page, IsPage}
+use Rattle.disk_marks.specs.Marks.{no_marks}
 use Rattle.vm_world.specs.FlatMemory.{Memory, flat_memory}
 use Rattle.vm_world.specs.Segments.{Segment, Spaces}
 use Rattle.vm_world.specs.State.{KernelState, Seats, notes_of}
@@ -83,6 +84,7 @@ busy_state page = record {
   plan = None;
   parents = 0 ∷ [];
   entries = 9 ∷ [];
+  marks = no_marks;
 }
 
 -- A private page in swap alone, one that is being written, and one that is home, with a translation through which it was written, fit together.

@@ -23,6 +23,7 @@ use Rattle.page_store.specs.declared.plan.Plan.TheVariants.{Push}
 use Rattle.flat_model.specs.Flat.{Flat, File}
 use Rattle.flat_model.specs.Parts.{read_line}
 use Rattle.flat_model.specs.Words.{Page, IsPage}
+use Rattle.disk_marks.specs.Marks.{no_marks}
 use Rattle.vm_world.specs.FlatMemory.{Memory, flat_memory, file_with_pages}
 use Rattle.vm_world.specs.Segments.{Segment, Spaces}
 use Rattle.vm_world.specs.State.{KernelState, Seats, notes_of, seats_of}
@@ -136,6 +137,7 @@ crowded_state page = record {
   plan = Some (record { seat = 3; plan = Push (file_name 0 0); of = None });
   parents = 0 ∷ 1 ∷ [];
   entries = 9 ∷ 9 ∷ [];
+  marks = no_marks;
 }
 
 -- The flat memory from which it began: process 1 was alive alone.

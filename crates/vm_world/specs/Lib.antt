@@ -8,6 +8,7 @@ pub mod TranslationsFit
 pub mod MemoryFits
 pub mod NotesFit
 pub mod State
+pub mod Marks
 pub mod DiskPlaces
 pub mod HistoryFits
 pub mod Wants

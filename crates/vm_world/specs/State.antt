@@ -9,6 +9,7 @@ use Rattle.flat_model.specs.vm_types.declared.call.Entry.{Entry}
 use Rattle.page_store.specs.Notes.{Note, Notes}
 use Rattle.page_store.specs.declared.plan.Plan.{Plan}
 use Rattle.flat_model.specs.vnode_files.Vnode.{VnodeSeen}
+use Rattle.disk_marks.specs.Marks.{MarksSeen}
 use Rattle.vm_world.specs.FlatMemory.{Memory}
 use Rattle.vm_world.specs.World.{StoreCore, core_of}
 
@@ -44,7 +45,8 @@ pub record KeptPlan : Type 0 where
   pub of : Option Caller
 
 -- The state: memory; who was ever alive; the history; the tails that became zeros since the last entry, as bits; for each file the seat whose call is
--- between two parts; for each seat where its Sync began; the last plan; and by the set-up each process's parent, or 0, and its most entries.
+-- between two parts; for each seat where its Sync began; the last plan; by the set-up each process's parent, or 0, and its most entries; and what is known of
+-- the blocks of files' disks.
 pub record KernelState : Type 0 where
   pub memory : Memory
   pub born : set.FinSet nat_cmp
@@ -55,6 +57,7 @@ pub record KernelState : Type 0 where
   pub plan : Option KeptPlan
   pub parents : List ℕ
   pub entries : List ℕ
+  pub marks : MarksSeen
 
 -- The seat of a process: that of process 1 is 0. Process 0 is none; no seat has so high a number.
 abbrev pub seat_of : ℕ → ℕ
