@@ -15,6 +15,7 @@ use Rattle.seg_vn.specs.vm_types.declared.call.Entry.{Entry}
 use Rattle.seg_vn.specs.vm_types.declared.call.Reply.{Reply}
 use Rattle.seg_vn.specs.vm_types.declared.call.Reply.TheVariants as reply
 use Rattle.seg_vn.specs.vm_types.declared.call.Signal.{Signal}
+use Rattle.seg_vn.specs.vm_types.Parts.{file_of_call}
 use Rattle.seg_vn.specs.vm_types.Prot.{can_read, can_write}
 use Rattle.seg_vn.specs.flat_model.Access.{access_target, load, store, with_page_stored}
 use Rattle.seg_vn.specs.flat_model.Flat.{Cell, Flat, IsFlat}
@@ -98,6 +99,12 @@ done-serves old new made spaces pending more p a n write answer c r s same acts 
   clean = λ from name is wants. absurd (plain from is);
 }
 
+-- an access is of no file
+no-file : (write : Bool) (q : ℕ) (c : Call) → Accesses write q c → (f : ℕ) → file_of_call c ≡ Some f → ⊥
+no-file false q (call.Load a n) at f is = let z : ◌≡◌ {A = Option ℕ} None (Some f) = is in cc
+no-file true q (call.Store a n v) at f is = let z : ◌≡◌ {A = Option ℕ} None (Some f) = is in cc
+no-file write q c at f is = absurd at
+
 -- A TRANSLATION leads to the page that its place shows.
 shown-there : (w : World) (spaces : Spaces) (p q : ℕ) (t : Translation) → MemoryFits (memory_of w spaces) → translation_at w.hat.places p q ≡ Some t → IsShown (memory_of w spaces) p q
 shown-there w spaces p q t f there =
@@ -174,7 +181,7 @@ module _ (old new : World) (spaces : Spaces) (pending more p a n : ℕ) where
   access-needs write c plan at refusal s fault =
       let needs = s.means.0 in
       record {
-        serves = λ calls. record { first = takes-there (memory_of old spaces) s.mid new pending more s.ends s.first; replaced = s.replaced; spaces = refl; runs = needs.wants calls c at; fault = fault; refusal = refusal s.due; wanted = needs.kept c at; modified = none-of (λ name. ⊥) old new (λ name never. never) s.modified };
+        serves = λ calls. record { first = takes-there (memory_of old spaces) s.mid new pending more s.ends s.first; replaced = s.replaced; spaces = refl; runs = needs.wants calls c at; fault = fault; refusal = refusal s.due; wanted = needs.kept c at; files = λ f is. absurd (no-file write (page a) c at f is); modified = none-of (λ name. ⊥) old new (λ name never. never) s.modified };
         due = fault;
         shown = tt;
         slots = s.slots;

@@ -134,6 +134,7 @@ module _ (old new : World) (spaces : Spaces) (pending p a len : ℕ) (keeps : Ke
           fault = λ born notes. ap is_ok (valid new born notes);
           refusal = plain;
           wanted = λ name frame never. absurd never;
+          files = λ f is. absurd (let z : ◌≡◌ {A = Option ℕ} None (Some f) = is in cc);
           modified = none;
         }
 

@@ -55,6 +55,7 @@ waits old new spaces pending more p f call name (Transfer plan) first fits of se
   fault = file_calls_law.faults p call f (memory_of new spaces) first.step.memory of (ap (λ (fs : FilesSeen). file_refusal fs call) files ∙ served);
   refusal = none-due old spaces p f call fits of served;
   wanted = kept;
+  files = λ k at. files;
   modified = none;
 }
 waits old new spaces pending more p f call name (Seat h) first fits of served files replaced none wants kept needs = λ calls. record {

@@ -227,6 +227,7 @@ module _ (opening : Flat) (s : KernelState) (seats : Seats) (fit : StateFits ope
     may = serves.runs.may;
     refusal = serves.refusal;
     wanted = serves.wanted;
+    files = serves.files;
     began = record { takes = serves.first; replaced = serves.replaced; modified = serves.modified; spaces = serves.spaces; none = record { history = refl; calls = refl }; starts = refl };
   }
 

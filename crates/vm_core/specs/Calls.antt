@@ -6,6 +6,7 @@ use Rattle.fault_entry.specs.page_store.declared.plan.Plan.{Plan}
 use Rattle.fault_entry.specs.vm_types.declared.call.Call.{Call}
 use Rattle.fault_entry.specs.vm_types.declared.call.Call.TheVariants.{Load, Store, Map, Unmap, Protect, Fork, Exit}
 use Rattle.fault_entry.specs.vm_types.declared.call.Reply.{Reply}
+use Rattle.fault_entry.specs.vm_types.Parts.{file_of_call}
 use Rattle.fault_entry.specs.vm_types.declared.call.Reply.TheVariants as reply
 use Rattle.fault_entry.specs.vm_types.declared.call.Reply.TheVariants.{Synced}
 use Rattle.fault_entry.specs.anon_slots.Slots.{count_at}
@@ -117,12 +118,13 @@ pub record HasBegun (old new : KernelState) (seat : ℕ) (call : Call) : Type 0 
   pub starts : new.syncs ≡ (with_call_begun old seat call).syncs
 
 -- A transfer is needed, and no signal or errno was due: the plan is kept for this seat, process and call. Pages that it wants home and that were home are where
--- they were, on neither list.
+-- they were, on neither list; and where the call is one on a file, the files are as they were, with their blank pages.
 pub record IsNeeded (old new : KernelState) (seat p : ℕ) (call : Call) (plan : Plan) : Type 0 where
   pub kept : new.plan ≡ Some (record { seat = seat; plan = plan; of = Some (p, call) })
   pub may : MayPlan new.memory (Some (p, call)) plan
   pub refusal : IsRefusal old.memory p call None
   pub wanted : KeepsWanted old.memory new.memory p call
+  pub files : (f : ℕ) → file_of_call call ≡ Some f → new.memory.world.files ≡ old.memory.world.files
   pub began : HasBegun old new seat call
 
 -- The call has to wait for another seat, and no signal or errno was due, but that a file's call alone is waited for before it is known whether one is.

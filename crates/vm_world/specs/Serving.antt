@@ -12,6 +12,7 @@ use Rattle.flat_model.specs.vm_types.declared.call.Call.{Call}
 use Rattle.flat_model.specs.vm_types.declared.call.Call.TheVariants.{Load, Store, Write, Truncate}
 use Rattle.flat_model.specs.vm_types.declared.call.Reply.{Reply}
 use Rattle.flat_model.specs.vm_types.declared.call.Reply.TheVariants.{Word, Done, Synced}
+use Rattle.flat_model.specs.vm_types.Parts.{file_of_call}
 use Rattle.flat_model.specs.vnode_files.Files.{vnode_at}
 use Rattle.flat_model.specs.Words.{page, page_size}
 use Rattle.vm_world.specs.CallSteps.{ActsOnMemory}
@@ -101,7 +102,8 @@ abbrev pub KeepsWanted : Memory → Memory → ℕ → Call → Type 0
 KeepsWanted old new p call = (name : PageName) (frame : ℕ) → WantsHome new p call name → residence old.world.store name ≡ Home frame
     → (residence new.world.store name ≡ Home frame) × (¬ IsListedFrame new.world.store frame)
 
--- The call needs a transfer first: one that may be answered to it, and can run. No signal or errno was due.
+-- The call needs a transfer first: one that may be answered to it, and can run. No signal or errno was due. Where the call is one on a file, the files are as
+-- they were, with their blank pages.
 pub record ServesNeed (old new : Memory) (pending more p : ℕ) (call : Call) (plan : Plan) : Type 0 where
   pub first : TakesFrames old new.world pending more
   pub replaced : AreReplaced old.world new.world first.cut
@@ -110,6 +112,7 @@ pub record ServesNeed (old new : Memory) (pending more p : ℕ) (call : Call) (p
   pub fault : MayMeetFault new p call
   pub refusal : IsRefusal old p call None
   pub wanted : KeepsWanted old new p call
+  pub files : (f : ℕ) → file_of_call call ≡ Some f → new.world.files ≡ old.world.files
   pub modified : ModifiesNone old.world new.world
 
 -- The hold isn't that of a file's call.
