@@ -1,5 +1,5 @@
 //! Disks that stand for one disk or for two.
-ghost use Rattle.std.specs.Prelude.{◌≡◌, Bool, Option, IfOk, IfErr};
+ghost use Rattle.std.specs.Prelude.{◌≡◌, Bool, false, Option, None, IfOk, IfErr};
 ghost use Rattle.block_device.specs.Pairs.{CanPair};
 
 use crate::Disk;
@@ -15,4 +15,8 @@ pub trait Pairing<D: Disk>: Disk {
         requires { CanPair D.seen a b mirror }
         ensures pair { IfOk result (pairs a b mirror) }
         ensures back { IfErr result (λ disks. disks ≡ (a, b)) };
+
+    /// The disk that stands for `a` alone. It takes no memory.
+    fn alone(a: D) -> Self
+        ensures { pairs a None false result };
 }

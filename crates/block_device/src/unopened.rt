@@ -133,6 +133,15 @@ impl<D: Disk> Unopened<D> {
         }
     }
 
+    /// The disk that stands for this one alone, under its number. It takes no memory.
+    pub fn alone<P: Pairing<D>>(self) -> Unopened<P>
+        ensures stands { P.pairs self.disk None false result.disk }
+        ensures number { result.number ≡ self.number }
+    {
+        let NumberedDisk { number, disk } = self.disk;
+        Unopened::of(number, P::alone(disk))
+    }
+
     /// The disk as it is.
     pub fn into_disk(self) -> D
         ensures { result ≡ self.disk }

@@ -94,6 +94,7 @@ impl<D: Disk> Disk for JoinedDisk<D> {
 }
 
 impl<D: Disk> Pairing<D> for JoinedDisk<D> {
+    ghost use Rattle.std.specs.Prelude.{false, None};
     ghost use Rattle.disk_stripe.specs.block_device.Pairs.{CanPair};
     ghost use Rattle.joined_disk.specs.JoinedSeen.{StandsFor};
 
@@ -119,5 +120,11 @@ impl<D: Disk> Pairing<D> for JoinedDisk<D> {
             Ok(mirror) => Ok(JoinedDisk::Mirrored(mirror)),
             Err((a, b)) => Err((a, Some(b))),
         }
+    }
+
+    fn alone(a: D) -> JoinedDisk<D>
+        ensures { StandsFor D.seen a None false result }
+    {
+        JoinedDisk::Plain(a)
     }
 }
