@@ -1,5 +1,5 @@
 //! Disks before the machine runs.
-ghost use Rattle.std.specs.Prelude.{◌≡◌, ◌<◌, length, option_map, IfOk, IfErr};
+ghost use Rattle.std.specs.Prelude.{◌≡◌, ◌<◌, false, length, option_map, None, IfOk, IfErr};
 ghost use Rattle.block_device.specs.DiskSeen.{Reads, Writes};
 ghost use Rattle.block_device.specs.Opening.{Opens, IsDiskFault};
 ghost use Rattle.block_device.specs.Pairs.{CanPair};

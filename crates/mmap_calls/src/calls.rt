@@ -143,7 +143,8 @@ pub fn attempt<D: Disk>(
     ensures fall { IfOk result (λ _. CountsFall world.old world.new) }
     ensures zeros { KnowsZeros world.new.zeros spaces.new.spaces }
     ensures alive { IsSome (finite.get spaces.new.spaces process) }
-    // Where memory is wanting nothing changed, but that a number of a zero object may be free.
+    // Memory is wanting for no Sync; and nothing changed then, but that a number of a zero object may be free.
+    ensures memory { OnErr result (ChangesMappings call.now) }
     ensures err { OnErr result ((world.new ≡ record world.old { zeros = world.new.zeros })
         × (spaces.new.spaces ≡ spaces.old.spaces)) }
     // What stays.
