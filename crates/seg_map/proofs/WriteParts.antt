@@ -280,6 +280,7 @@ module _ (old : World) (spaces : Spaces) (pending p f offset rest : ℕ) (line :
     fault = d.fault;
     refusal = none-due old spaces p f (Write f offset line rest) fits refl served;
     wanted = λ n frame wants home. d.wanted n frame wants (stay n ∙ home);
+    files = λ k at. d.files k at ∙ files;
     modified = modifies-then old mid new none d.modified;
   }
   serves-later mid new more (Err (Seat h)) keeps names files stay none d = λ calls. let b = d calls in record {
