@@ -207,7 +207,7 @@ SAYS = {
     'page_clock': 'two hands', 'disk_file': 'a file as disk', 'disk_stripe': 'turn by turn', 'disk_mirror': 'each on both',
     'block_device': 'disks, streams', 'hash_chains': 'chains', 'swap_slots': 'least free', 'flat_model': 'what it means',
     'flat_state': 'kept plainly', 'vnode_files': 'extents', 'vm_types': 'calls, replies', 'zero_objects': 'by number',
-    'disk_marks': 'what blocks have', 'mark_laws': 'true marks', 'state_marks': "a state's marks",
+    'disk_marks': 'what blocks have', 'mark_laws': 'true marks',
     'volume_files': 'mounted files', 'command_line': 'words', 'vm_run': 'one run', 'joined_disk': 'two as one', 'volume_disks': 'one or two',
 }
 WIDE, HIGH, GAP, STEP = 116, 46, 12, 88

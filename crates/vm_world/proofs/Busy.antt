@@ -1,6 +1,6 @@
 -- The busy state fits.
-use Rattle.std.proofs.Common.{◌≡◌, ℕ, zero, suc, ◌+◌, ◌<◌, ◌≤◌, ◌==◌, Bool, true, false, cond, List, [], ◌∷◌, ◌++◌, length, map, Option, Some, None, refl, sym, ap, ◌∙◌, ◌⊎◌, inl, inr, subst, arith}
-use Rattle.std.specs.Prelude.{option_map, option_and_then, slice_index_or, slice_index, All, IsSome, IsTrue, IsFalse, sum_by, count_by, flat_map, filter_map, is_some, ◌||◌}
+use Rattle.std.proofs.Common.{◌≡◌, ◌≢◌, ℕ, zero, suc, ◌+◌, ◌<◌, ◌≤◌, ◌==◌, Bool, true, false, cond, List, [], ◌∷◌, ◌++◌, length, map, Option, Some, None, refl, sym, ap, ◌∙◌, ◌⊎◌, inl, inr, subst, arith}
+use Rattle.std.specs.Prelude.{option_map, option_and_then, slice_index_or, slice_index, All, IsSome, IsTrue, IsFalse, sum_by, count_by, flat_map, filter_map, is_some, unwrap_or, ◌||◌}
 use Rattle.std.specs.Ordering.{nat_cmp}
 use Rattle.std.specs.Cmp.{nat_cmp_total, unsigned_tied}
 use Rattle.std.specs.List.{list_any}
@@ -16,7 +16,7 @@ use Rattle.std.proofs.lemmas.List.Elements.{All-nil, All-cons}
 use Rattle.std.proofs.lemmas.List.Sums.{sum_by-cons}
 use Rattle.addr_space.specs.Space.{Part, IsInOrder, piece_at}
 use Rattle.anon_map.specs.Maps.{Map, places_of, holders_of}
-use Rattle.flat_model.specs.vnode_files.Files.{no_files}
+use Rattle.flat_model.specs.vnode_files.Files.{no_files, block_count}
 use Rattle.page_store.specs.block_device.DiskSeen.{DiskSeen, IsBlock, AreBlocks, HasBlocks}
 use Rattle.page_store.specs.core_arena.Bytes.{bytes_at}
 use Rattle.page_store.specs.page_hash.Names.{name_at}
@@ -30,6 +30,8 @@ use Rattle.page_store.specs.Seen.{IsSoundStore, FrameAgrees, IsListedFrame}
 use Rattle.page_store.specs.StoreFits.{StoreFits, NoteAgrees}
 use Rattle.page_store.proofs.LayoutLemmas.{layout_law}
 use Rattle.hat_layer.specs.Pool.{IsSingleValued}
+use Rattle.mark_laws.specs.disk_marks.declared.marks.Mark.{Mark}
+use Rattle.mark_laws.specs.disk_marks.declared.marks.Mark.TheVariants.{Blank, Unsure}
 use Rattle.hat_layer.specs.declared.translation.Translation.{Translation}
 use Rattle.flat_model.specs.Words.{Page, IsPage}
 use Rattle.flat_model.proofs.Ranges.{get-insert_here, get-insert_apart}
@@ -422,11 +424,36 @@ module _ (page : Page) (whole : IsPage page) where
       planned = λ kept of is _. absurd (cc);
       sent = λ seat sent of is for_call. absurd (no-caller seat sent of is for_call);
     };
+    marks = λ tell. record {
+      there = λ name disk block at. absurd (cc);
+      early = λ name disk block at. absurd (cc);
+      blocks = λ name disk block at. absurd (cc);
+      blanks = λ name disk block j at. absurd (cc);
+      places = λ seat note is writes far. absurd (no-file seat note is far);
+      sent = λ seat note is writes far. absurd (no-file seat note is far);
+      out = λ seat push is. absurd (cc);
+      synced = λ k b name disk block syn at. absurd (cc);
+      later = λ k b seat name push syn is. absurd (cc);
+      kept = λ f file at. absurd (cc);
+      rows = λ disk block lt. absurd (let none : finite.get (finite.empty {X = ℕ} {R = nat_cmp}) disk ≡ None = finite.get-empty nat_cmp disk in let zero : block_count finite.empty disk ≡ 0 = ap (λ (o : Option ℕ). unwrap_or o 0) none in omega (arith, lt, zero));
+      free = λ disk block none. refl;
+      inside = λ seat push is. absurd (cc);
+    };
+    failures = λ disk block j before after is. absurd (let z : ◌≡◌ {A = Mark} (Blank 0) (Unsure j before after) = is in cc);
+    pushes = refl;
   }
     where
       no-entry : (front rest : List Entry) (e : Entry) → [] ≡ front ++ e ∷ rest → ⊥
       no-entry [] rest e is = cc
       no-entry (x ∷ front) rest e is = cc
+
+      -- its transfer is of a slot
+      no-file : (seat : ℕ) (note : Note) → notes_of (busy_seats page) seat ≡ Some note → note.name.object ≢ 64 → ⊥
+      no-file seat note is far = by_seat (seat == 1) is
+        where
+          by_seat : (b : Bool) → option_map (λ (x : Sent). x.note) (cond b (Some (record { note = busy_note page; of = None })) None) ≡ Some note → ⊥
+          by_seat true e = far (sym (ap (λ (n : Note). n.name.object) (some-inj (busy_note page) note e)))
+          by_seat false e = cc
 
       no-caller : (seat : ℕ) (sent : Sent) (of : Caller) → busy_seats page seat ≡ Some sent → sent.of ≡ Some of → ⊥
       no-caller seat sent of is for_call = by_seat (seat == 1) is

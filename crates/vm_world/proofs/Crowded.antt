@@ -52,7 +52,7 @@ use Rattle.flat_model.proofs.Ranges.{get-insert_here, get-insert_apart}
 use Rattle.vm_world.specs.World.{file_blocks, file_name, slot_name, world_table, is_unpushed, page_exists}
 use Rattle.vm_world.specs.Pages.{Contents, page_value, contents_of}
 use Rattle.vm_world.specs.Segments.{Segment, segments_of, zero_map}
-use Rattle.vm_world.specs.FlatMemory.{Memory, flat_memory, zero_maps, zero_pages, map_with, file_with_pages, space_with, cell_of}
+use Rattle.vm_world.specs.FlatMemory.{flat_memory, zero_maps, zero_pages, map_with, file_with_pages, space_with, cell_of}
 use Rattle.vm_world.specs.FramesFit.{FilesFit, HasSize}
 use Rattle.vm_world.specs.CountsFit.{CountsFit, SegmentsFit, SegmentFits, ShowsZero, is_number, places_in, times_held, times_had, reserved_pages, slots_for_part}
 use Rattle.vm_world.specs.MemoryFits.{MemoryFits}
@@ -63,6 +63,7 @@ use Rattle.vm_world.specs.DiskPlaces.{faults_in}
 use Rattle.vm_world.specs.HistoryFits.{HistoryFits, FaultsFit, CallsFit, RoomsFit, BirthsFit, has_left}
 use Rattle.vm_world.specs.Crowded.{crowded_part, crowded_parent, crowded_spaces, crowded_maps, crowded_slots, crowded_info, crowded_other, crowded_files, crowded_disk, crowded_store, crowded_hat, crowded_memory, crowded_snapshot, crowded_gone, crowded_seats, crowded_file, crowded_birth, crowded_read, crowded_history, crowded_state, crowded_opening, CrowdedLaw}
 use Rattle.vm_world.proofs.Counting.{adds, adds-other}
+use Rattle.vm_world.proofs.CrowdedMarks.{crowded-marks, never-failed}
 use Rattle.vm_world.proofs.CutFiles.{cut-file}
 use Rattle.vm_world.specs.WorldSteps.{cut_page}
 use Rattle.vm_world.proofs.FlatWhole.{HasPages, some-inj, flat-whole}
@@ -942,6 +943,9 @@ module _ (page : Page) (whole : IsPage page) where
       planned = λ kept of is for_call. absurd (no-caller kept of is for_call);
       sent = λ seat sent of is for_call. absurd (none-sent seat sent of is for_call);
     };
+    marks = λ tell. crowded-marks page size-is birth-step (subst (λ (F : Flat). IsStep F (crowded_read page)) (sym born) read-step);
+    failures = λ disk block j before after is. absurd (never-failed disk block j before after is);
+    pushes = refl;
   }
     where
       no-caller : (kept : KeptPlan) (of : Caller) → (crowded_state page).plan ≡ Some kept → kept.of ≡ Some of → ⊥

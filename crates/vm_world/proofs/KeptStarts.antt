@@ -1,5 +1,5 @@
 -- WHERE A SYNC BEGAN is kept.
-use Rattle.std.proofs.Common.{◌≡◌, ◌≢◌, ℕ, suc, true, false, ◌<◌, ◌≤◌, List, [], length, Option, Some, None, refl, sym, ap, ◌∙◌, ◌⊎◌, inl, inr, subst, arith, slice_index_or, slice_set, get_or-set_same, get_or-set_other, length-set}
+use Rattle.std.proofs.Common.{◌≡◌, ℕ, suc, true, false, ◌<◌, List, length, Option, Some, None, refl, sym, ap, ◌∙◌, inl, inr, subst, arith, slice_index_or, slice_set, get_or-set_same, get_or-set_other, length-set}
 use Rattle.std.specs.Prelude.{is_none, is_some, unwrap_or, IsSome}
 use Rattle.std.proofs.lemmas.Bool.{cases_Bool, cases_eq}
 use Rattle.page_store.specs.core_arena.Bytes.{bytes_at}
@@ -67,6 +67,9 @@ keeps-start s seat sent lt = record {
       planned = fit.plans.planned;
       sent = fit.plans.sent;
     };
+    marks = fit.marks;
+    failures = fit.failures;
+    pushes = fit.pushes ∙ sym (length-set s.syncs seat (Some (start_of s seat)));
   });
   fixed = λ i. record {
     core = (fixed_of s).core;

@@ -1,10 +1,8 @@
--- The state at the opening fits.
-use Rattle.flat_model.proofs.Frames.{or_nothing as or-false}
+-- What the opening has, from which its state fits.
 use Rattle.std.proofs.Common.{◌≡◌, ℕ, zero, suc, ◌-◌, ◌*◌, ◌<◌, ◌≤◌, ◌^◌, min, Bool, true, false, cond, List, [], ◌∷◌, ◌++◌, length, map, replicate, Option, Some, None, refl, sym, ap, ◌∙◌, inl, inr, subst, arith}
-use Rattle.std.specs.Prelude.{option_map, slice_index_or, slice_index, unwrap_or, is_some, if◌then◌else◌, All, IsSome, IsTrue, IsFalse, sum_by, ◌||◌, Contains}
+use Rattle.std.specs.Prelude.{option_map, slice_index_or, slice_index, unwrap_or, All, IsSome, sum_by, Contains}
 use Rattle.std.specs.Ordering.{nat_cmp}
 use Rattle.std.specs.FinMap as finite
-use Rattle.std.specs.FinSet as set
 use Rattle.std.proofs.lemmas.List.Elements.{All-nil}
 use Rattle.std.proofs.lemmas.Nat.{pow_pos}
 use Rattle.page_store.proofs.page_lists.ListLemmas.{Contains-none}
@@ -32,18 +30,17 @@ use Rattle.flat_model.specs.Step.{is_bit_set, tails_cleared}
 use Rattle.flat_model.proofs.ClearedTails.{cleared_tails_law}
 use Rattle.vm_world.specs.World.{file_blocks, slot_name, is_unpushed, world_table, AllTell}
 use Rattle.vm_world.specs.Segments.{Segment}
-use Rattle.vm_world.specs.FlatMemory.{Memory, flat_memory, zero_maps}
+use Rattle.vm_world.specs.FlatMemory.{Memory, zero_maps}
 use Rattle.vm_world.specs.CountsFit.{SegmentsFit, SegmentFits, CountsFit, ShowsZero, places_in, times_had, times_held}
 use Rattle.vm_world.specs.MemoryFits.{MemoryFits}
 use Rattle.vm_world.specs.NotesFit.{NotesFit}
 use Rattle.vm_world.specs.State.{KernelState, is_top}
-use Rattle.vm_world.specs.StateFits.{StateFits}
 use Rattle.vm_world.specs.DiskPlaces.{faults_in}
-use Rattle.vm_world.specs.HistoryFits.{HistoryFits, FaultsFit, CallsFit, RoomsFit, BirthsFit, has_left}
+use Rattle.vm_world.specs.HistoryFits.{HistoryFits, FaultsFit, CallsFit}
 use Rattle.flat_model.specs.vm_types.declared.call.Entry.{Entry}
 use Rattle.flat_model.specs.Counted.{top_count}
-use Rattle.vm_world.specs.Opening.{IsOpeningMemory, IsOpening, OpeningLaw, no_seats}
-use Rattle.vm_world.proofs.FlatWhole.{HasPages, some-inj, flat-whole}
+use Rattle.vm_world.specs.Opening.{IsOpeningMemory, IsOpening}
+use Rattle.vm_world.proofs.FlatWhole.{HasPages, some-inj}
 use Rattle.vm_world.proofs.PageNames.{page-cases, keeps-page, file-place, slot-place}
 use Rattle.vm_world.proofs.Spaces.{EmptySpaces, empty-segments, empty-zeros, empty-reserved}
 use Rattle.vm_world.proofs.StoredPages.{IsPage-stored}
@@ -190,7 +187,7 @@ opening-history F H pending whole empty none = subst (λ (h : List Entry). Histo
   bits = above-zero (length F.files);
 }))
 
-opening-faults : (s : KernelState) → IsOpening s → FaultsFit s.history s.memory.world.store.bays no_notes
+pub opening-faults : (s : KernelState) → IsOpening s → FaultsFit s.history s.memory.world.store.bays no_notes
 opening-faults s o = subst (λ (h : List Entry). FaultsFit h s.memory.world.store.bays no_notes) (sym o.history) (record {
   counted = record { risen = λ k e disk before after is _. absurd (cc); ordered = λ j k d e disk b after before a lt is _ _ _. absurd (cc) };
   reached = λ k e disk before after is _. absurd (cc);
@@ -202,7 +199,7 @@ opening-faults s o = subst (λ (h : List Entry). FaultsFit h s.memory.world.stor
     by_bay disk count (out seat) e is = absurd (cc)
     by_bay disk count (home d) e is = subst (λ (n : ℕ). n ≤ top_count) (some-inj d.faults count is) (o.memory.store.most disk d e)
 
-opening-calls : (s : KernelState) → IsOpening s → CallsFit s.history s.calls s.syncs
+pub opening-calls : (s : KernelState) → IsOpening s → CallsFit s.history s.calls s.syncs
 opening-calls s o = subst (λ (h : List Entry). CallsFit h s.calls s.syncs) (sym o.history) (record {
   ends = λ front rest e is. absurd (no_entry front rest e is);
   files = λ f seat. ((λ is. absurd (let z : None ≡ Some seat = sym (o.calls f) ∙ is in cc)), (λ is. absurd is));
@@ -212,38 +209,3 @@ opening-calls s o = subst (λ (h : List Entry). CallsFit h s.calls s.syncs) (sym
     no_entry : (front rest : List Entry) (e : Entry) → [] ≡ front ++ e ∷ rest → ⊥
     no_entry [] rest e is = cc
     no_entry (x ∷ front) rest e is = cc
-
--- THE OPENING.
-opening-fits : (s : KernelState) → IsOpening s → StateFits (flat_memory s.memory s.born no_notes) s no_seats
-opening-fits s o = record {
-  memory = opening-memory s.memory s.parents o.memory;
-  notes = opening-notes s.memory s.parents o.memory;
-  replays = λ tell. opening-history (flat_memory s.memory s.born no_notes) s.history s.pending
-      (flat-whole s.memory no_notes (opening-memory s.memory s.parents o.memory) (opening-pages s.memory s.parents o.memory tell) s.born alive) o.history o.pending;
-  faults = opening-faults s o;
-  calls = opening-calls s o;
-  rooms = subst (λ (h : List Entry). RoomsFit h s.parents s.entries) (sym o.history) (record { made = λ p. omega arith; forks = λ k child e is _. absurd (cc) });
-  births = subst (λ (h : List Entry). BirthsFit h s.parents s.memory.spaces s.born) (sym o.history) (record { lived = λ p. o.born p ∙ or-false (is_top s.parents p); alive = alive; stays = stays });
-  plans = record {
-    plan = λ kept is. absurd (let z : None ≡ Some kept = sym o.plan ∙ is in cc);
-    planned = λ kept of is _. absurd (let z : None ≡ Some kept = sym o.plan ∙ is in cc);
-    sent = λ seat sent of is _. absurd (cc);
-  };
-}
-  where
-    by_top : (b : Bool) (parts : Option (List (Part Segment))) → parts ≡ (if b then Some [] else None) → IsSome parts → b ≡ true
-    by_top true parts e is = refl
-    by_top false parts e is = sym (ap is_some e) ∙ is
-
-    alive : (p : ℕ) → IsSome (finite.get s.memory.spaces p) → IsTrue (set.contains s.born p)
-    alive p is = o.born p ∙ by_top (is_top s.parents p) (finite.get s.memory.spaces p) (o.memory.spaces p) is
-
-    there : (b : Bool) (parts : Option (List (Part Segment))) → parts ≡ (if b then Some [] else None) → b ≡ true → IsSome parts
-    there true parts is top = ap is_some is
-    there false parts is top = absurd (let z : false ≡ true = top in cc)
-
-    stays : (p : ℕ) → IsTrue (set.contains s.born p) → IsFalse (has_left p []) → IsSome (finite.get s.memory.spaces p)
-    stays p born here = there (is_top s.parents p) (finite.get s.memory.spaces p) (o.memory.spaces p) (sym (o.born p) ∙ born)
-
-pub opening_law : OpeningLaw
-opening_law = record { fits = opening-fits }

@@ -1,9 +1,10 @@
 -- A call that is served is an event.
-use Rattle.std.proofs.Common.{◌≡◌, ◌≢◌, ◌<◌, ℕ, true, false, List, length, Option, Some, None, refl, sym, ap, ◌∙◌, subst}
-use Rattle.std.specs.Prelude.{IsSome, is_some}
+use Rattle.std.proofs.Common.{◌≡◌, ◌≢◌, ◌<◌, ℕ, suc, true, false, cond, List, length, map, Option, Some, None, refl, sym, ap, ◌∙◌, subst}
+use Rattle.std.specs.Prelude.{IsSome, is_some, nat_lt, slice_index_or}
 use Rattle.flat_model.specs.vm_types.declared.call.Call.{Call}
-use Rattle.flat_model.specs.vm_types.declared.call.Call.TheVariants.{Fork}
+use Rattle.flat_model.specs.vm_types.declared.call.Call.TheVariants.{Fork, Sync, Truncate}
 use Rattle.flat_model.specs.vm_types.declared.call.Reply.{Reply}
+use Rattle.flat_model.specs.vm_types.declared.call.Reply.TheVariants.{Done, Synced}
 use Rattle.page_store.specs.declared.plan.Hold.{Hold}
 use Rattle.page_store.specs.declared.plan.Hold.TheVariants as hold
 use Rattle.page_store.specs.declared.plan.Plan.{Plan}
@@ -11,7 +12,6 @@ use Rattle.flat_model.specs.Flat.{Flat}
 use Rattle.vm_world.specs.CallSteps.{StaysAlive}
 use Rattle.vm_world.specs.EntryLaws.{LocksAfter, StartsAfter}
 use Rattle.vm_world.specs.Events.{IsEvent, CanTry, MayBear}
-use Rattle.vm_world.specs.Failures.{with_entry_made}
 use Rattle.vm_world.specs.FlatMemory.{Memory}
 use Rattle.vm_world.specs.Plans.{CanRunPlan, MayMeetFault, refusal_in}
 use Rattle.vm_world.specs.Serving.{ServesDone, ServesNeed, ServesBusy}
@@ -21,6 +21,15 @@ use Rattle.vm_world.specs.StateFits.{StateFits}
 use Rattle.vm_world.specs.StateSteps.{after_step}
 use Rattle.vm_world.specs.Wants.{MayHold, HoldsUp, seat_in}
 use Rattle.vm_world.specs.World.{World}
+use Rattle.vm_world.specs.CallSteps.{MarksAfterReply, with_entry_marked}
+use Rattle.vm_world.specs.Marks.{MarksSeen}
+use Rattle.vm_world.specs.StateEntries.{marks_answered}
+use Rattle.vm_world.specs.WorldSteps.{KeepsTables}
+use Rattle.mark_laws.specs.Cuts.{marks_shortened}
+use Rattle.flat_model.specs.vnode_files.declared.vnode.FileInfo.{FileInfo}
+use Rattle.flat_model.specs.vnode_files.Files.{FilesSeen, vnode_at}
+use Rattle.flat_model.specs.vnode_files.Vnode.{VnodeSeen, no_vnode}
+use Rattle.vm_world.proofs.FrameRule.{info-at}
 use Rattle.vm_world.proofs.CallSteps.{rule-done}
 use Rattle.vm_world.proofs.FlatWhole.{some-inj}
 use Rattle.vm_world.proofs.Shapes.{refusal-kept}
@@ -35,15 +44,29 @@ bears-then s w pending p call bears = search
 same-memory : (old new : Memory) → new.spaces ≡ old.spaces → record old { world = new.world } ≡ new
 same-memory old new spaces = λ i. record { world = new.world; spaces = sym spaces i }
 
+-- a step of the world changes nothing of what an entry does to the marks
+answered-same : (F G : FilesSeen) → map (λ (v : VnodeSeen). v.info) G.files ≡ map (λ (v : VnodeSeen). v.info) F.files → (call : Call) (reply : Reply) (entries : ℕ) (m : MarksSeen) → marks_answered F call reply entries m ≡ marks_answered G call reply entries m
+answered-same F G infos (Truncate f len) Done entries m =
+    let same : (vnode_at F f).info ≡ (vnode_at G f).info = info-at F.files f ∙ ap (λ (is : List FileInfo). slice_index_or is f no_vnode.info) (sym infos) ∙ sym (info-at G.files f) in
+    ap (λ (info : FileInfo). cond (nat_lt len info.length) (marks_shortened m f info.disk info.extents info.length len entries) m) same
+answered-same F G infos (Truncate f len) reply entries m = refl
+answered-same F G infos call reply entries m = refl
+
+marks-then : (old mid new : Memory) → KeepsTables old.world mid.world → (p : ℕ) (call : Call) (reply : Reply) (entries : ℕ) (m n : MarksSeen) → MarksAfterReply old new p call reply entries m n → MarksAfterReply mid new p call reply entries m n
+marks-then old mid new tables p (Sync addr len) (Synced b) entries m n after = after
+marks-then old mid new tables p call reply entries m n after = after ∙ answered-same old.world.files mid.world.files tables.infos call reply (suc entries) m
+
 -- DONE: frames are taken, and then the call is done.
-serves-done : (s : KernelState) (new : Memory) (seat p more : ℕ) (call : Call) (reply : Reply) (calls syncs : List (Option ℕ)) → CanTry s seat p call → ServesDone s.memory new s.pending more p call reply → StaysAlive new p call → MayAnswer s seat p call reply
+serves-done : (s : KernelState) (new : Memory) (seat p more : ℕ) (call : Call) (reply : Reply) (calls syncs : List (Option ℕ)) (n : MarksSeen) → CanTry s seat p call → ServesDone s.memory new s.pending more p call reply → StaysAlive new p call → MayAnswer s seat p call reply
     → LocksAfter (done_entry p call reply more) s.calls calls → StartsAfter (done_entry p call reply more) s.syncs syncs → length syncs ≡ length s.syncs
-    → IsEvent seat s None (with_entry_made (record s { memory = new }) (done_entry p call reply more) calls syncs) None
-serves-done s new seat p more call reply calls syncs try serves stays may locks starts count =
+    → MarksAfterReply s.memory new p call reply (length s.history) s.marks n
+    → IsEvent seat s None (with_entry_marked (record s { memory = new }) (done_entry p call reply more) calls syncs n) None
+serves-done s new seat p more call reply calls syncs n try serves stays may locks starts count after =
     let mid : KernelState = after_step s serves.mid more in
-    event-then seat s mid (with_entry_made (record mid { memory = new }) (done_entry p call reply more) calls syncs) None None None
+    event-then seat s mid (with_entry_marked (record mid { memory = new }) (done_entry p call reply more) calls syncs n) None None None
     (rule-calm s serves.mid serves.first.cut more seat None serves.first.step serves.first.pends)
-    (rule-done mid new seat (done_entry p call reply more) calls syncs (serves.acts more) stays (record {
+    (rule-done mid new seat (done_entry p call reply more) calls syncs n (serves.acts more)
+    (marks-then s.memory mid.memory new serves.first.step.tables p call reply (length s.history) s.marks n after) serves.clean stays (record {
       try = record { own = try.own; alive = try.alive; room = try.room; follows = try.follows; bears = bears-then s serves.mid more p call try.bears };
       cleared = refl;
       formed = may.formed;

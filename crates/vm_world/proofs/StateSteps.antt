@@ -1,17 +1,22 @@
 -- A step of the world is an event.
 use Rattle.page_store.proofs.TransferLemmas.{home-within as home-below, out-within as out-below}
-use Rattle.std.proofs.Common.{◌≡◌, ◌≢◌, ℕ, ◌<◌, ◌≤◌, ◌==◌, ◌^◌, Bool, true, false, cond, List, [], ◌∷◌, ◌++◌, length, Option, Some, None, refl, sym, ap, ◌∙◌, inl, inr, subst, arith}
-use Rattle.std.specs.Prelude.{option_map, slice_set, All, IsSome, is_some}
+use Rattle.std.proofs.Common.{◌≡◌, ◌≢◌, ℕ, ◌<◌, ◌≤◌, ◌==◌, ◌^◌, Bool, true, false, cond, List, [], ◌++◌, length, Option, Some, None, refl, sym, ap, ◌∙◌, inl, inr, subst, arith}
+use Rattle.std.specs.Prelude.{◌&&◌, not, option_map, slice_set, All, IsSome, is_some}
 use Rattle.std.proofs.lemmas.Bool.{cases_eq}
 use Rattle.std.proofs.lemmas.Bool.Decides.{eqb_tells}
-use Rattle.std.proofs.lemmas.List.{append-nil, length-map, get_or-set_same, get_or-set_other}
+use Rattle.std.proofs.lemmas.List.{append-nil, length-map, length-set, get_or-set_same, get_or-set_other}
 use Rattle.std.proofs.lemmas.List.Elements.{All-nil}
 use Rattle.flat_model.specs.vm_types.declared.call.Entry.{Entry}
 use Rattle.page_store.specs.block_device.DiskSeen.{DiskKind, DiskSeen}
 use Rattle.page_store.specs.page_hash.declared.PageName.{PageName}
 use Rattle.page_store.specs.Bays.{BaySeen, missing, home, out, bay_at}
-use Rattle.page_store.specs.Flight.{FlightSeen}
+use Rattle.page_store.specs.Flight.{FlightSeen, Progress, fresh, done, failed}
 use Rattle.page_store.specs.Notes.{Note, Notes, with_note}
+use Rattle.page_store.specs.Value.{content_of, content_in_bay}
+use Rattle.mark_laws.specs.disk_marks.Changes.{marks_begun}
+use Rattle.mark_laws.specs.MarkLaws.{marks_by}
+use Rattle.mark_laws.specs.MarksFit.{PushesFile, MarksFit, FailuresFit}
+use Rattle.mark_laws.proofs.Failing.{failures_rule}
 use Rattle.flat_model.specs.vnode_files.Vnode.{VnodeSeen}
 use Rattle.flat_model.specs.Counted.{top_count}
 use Rattle.flat_model.specs.Flat.{Flat, IsFlat}
@@ -22,13 +27,16 @@ use Rattle.vm_world.specs.Pages.{contents_of}
 use Rattle.vm_world.specs.FlatMemory.{flat_memory, shape_of}
 use Rattle.vm_world.specs.DiskPlaces.{HasCounted, SameDisks, disk_fixed, faults_in, seen_in, seen_of_note}
 use Rattle.vm_world.specs.HistoryFits.{HistoryFits, FaultsFit}
+use Rattle.vm_world.specs.Marks.{MarksSeen}
+use Rattle.vm_world.specs.MarksOf.{MarksOf, FailuresOf, MaySend, marks_left, marks_ended}
 use Rattle.vm_world.specs.MemoryFits.{MemoryFits}
 use Rattle.vm_world.specs.NotesFit.{NotesFit}
 use Rattle.vm_world.specs.Plans.{CanRunPlan, MayMeetFault}
 use Rattle.vm_world.specs.State.{KernelState, Seats, Sent, Caller, KeptPlan, notes_of, with_sent, fixed_of, seat_of}
 use Rattle.vm_world.specs.StateFits.{StateFits, CallerFits, PlanFits}
 use Rattle.vm_world.specs.Events.{IsEvent, CanTry}
-use Rattle.vm_world.specs.StateSteps.{after_step, PendsTails, ComesBack, StateRule}
+use Rattle.vm_world.specs.StateMarks.{PagesFit}
+use Rattle.vm_world.specs.StateSteps.{after_step, after_leaving, after_return, PendsTails, ComesBack, StateRule}
 use Rattle.vm_world.specs.WorldSteps.{Trip, stays, leaves, returns, HasTrip, notes_after, WorldStep, tails_lost}
 use Rattle.flat_model.proofs.WellFormed.{IsFlat-tails_cleared}
 use Rattle.vm_world.proofs.Entries.{entry-tails, length-cleared}
@@ -38,6 +46,9 @@ use Rattle.vm_world.proofs.FrameRule.{frame-flat}
 use Rattle.vm_world.proofs.FlatWhole.{some-inj}
 use Rattle.vm_world.proofs.Callers.{caller-kept, same-modes}
 use Rattle.vm_world.proofs.MayFails.{alive-flat}
+use Rattle.vm_world.proofs.Moving.{state_marks_rule}
+use Rattle.vm_world.proofs.Failed.{state_failures_rule}
+use Rattle.vm_world.proofs.PageNames.{not-slot}
 
 -- the notes of seats one of which has something else outside
 notes-with : (seats : Seats) (seat : ℕ) (sent : Option Sent) → notes_of (with_sent seats seat sent) ≡ with_note (notes_of seats) seat (option_map (λ (s : Sent). s.note) sent)
@@ -108,12 +119,13 @@ module _ (s : KernelState) (new : World) (trip : Trip) (cut : PageName → Bool)
       (entry-tails opening s.history s.pending pending (flat_memory s.memory s.born notes) (tails_lost s.memory.world cut) h
       (λ f lt. tails.bits f (omega (arith, lt, count))) (subst (λ (n : ℕ). pending < 2 ^ n) (sym count) (tails.below (subst (λ (n : ℕ). s.pending < 2 ^ n) (files opening notes h count) h.bits))))
 
-  -- the state after the step, with no plan
-  event-state : (opening : Flat) (seats seats' : Seats) → notes_of seats' ≡ notes_after trip (notes_of seats) → HasTrip trip (notes_of seats)
+  -- the state after the step, with no plan and these marks
+  event-state : (opening : Flat) (seats seats' : Seats) (m : MarksSeen) → notes_of seats' ≡ notes_after trip (notes_of seats) → HasTrip trip (notes_of seats)
       → FaultsFit s.history new.store.bays (notes_after trip (notes_of seats))
+      → MarksOf opening (after_step s new pending) seats' m → FailuresOf (after_step s new pending) seats' m → length m.pushes ≡ length s.marks.pushes
       → ((k : ℕ) (sent : Sent) (of : Caller) → seats' k ≡ Some sent → sent.of ≡ Some of → CallerFits (flat_memory s.memory s.born (notes_of seats)) s.history s.entries k of)
-      → StateFits opening s seats → StateFits opening (after_step s new pending) seats'
-  event-state opening seats seats' same has faults callers fit = record {
+      → StateFits opening s seats → StateFits opening (record (after_step s new pending) { marks = m }) seats'
+  event-state opening seats seats' m same has faults told counts pushes callers fit = record {
     memory = step.memory;
     notes = subst (λ (n : Notes). NotesFit new n) (sym same) (step.notes (notes_of seats) has fit.notes);
     replays = subst (λ (n : Notes). AllTell new n → HistoryFits opening s.history pending (flat_memory (after_step s new pending).memory s.born n)) (sym same)
@@ -127,7 +139,24 @@ module _ (s : KernelState) (new : World) (trip : Trip) (cut : PageName → Bool)
       planned = λ kept of is _. absurd (let z : ◌≡◌ {A = Option KeptPlan} None (Some kept) = is in cc);
       sent = λ k sent of is for_call. caller-step (notes_of seats) (notes_of seats') k of (callers k sent of is for_call);
     };
+    marks = told;
+    failures = counts;
+    pushes = pushes ∙ fit.pushes;
   }
+
+-- WHERE THE DISKS STAY, and the history and the marks, the marks stay true.
+pub marks-stay : (opening : Flat) (s t : KernelState) (seats : Seats) → t.history ≡ s.history → t.memory.world.store.bays ≡ s.memory.world.store.bays
+    → (AllTell t.memory.world (notes_of seats) → AllTell s.memory.world (notes_of seats)) → (m : MarksSeen) → MarksOf opening s seats m → MarksOf opening t seats m
+marks-stay opening s t seats history bays tells m told tell =
+    subst (λ (H : List Entry). MarksFit opening H (content_of t.memory.world.store (notes_of seats)) (notes_of seats) m) (sym history)
+    (subst (λ (b : List BaySeen). MarksFit opening s.history (λ disk. content_in_bay (bay_at b disk) (notes_of seats)) (notes_of seats) m) (sym bays) (told (tells tell)))
+
+pub failures-stay : (s t : KernelState) (seats : Seats) → t.memory.world.store.bays ≡ s.memory.world.store.bays → (m : MarksSeen) → FailuresOf s seats m → FailuresOf t seats m
+failures-stay s t seats bays m counts = subst (λ (b : List BaySeen). FailuresFit (λ disk. faults_in (bay_at b disk) (notes_of seats)) m) (sym bays) counts
+
+-- what the marks stand on
+pub pages-fit : (opening : Flat) (s : KernelState) (seats : Seats) → StateFits opening s seats → PagesFit opening s seats
+pages-fit opening s seats fit = record { memory = fit.memory; notes = fit.notes; replays = fit.replays }
 
 pub no-entries : (H : List Entry) (seat : ℕ) → (added : List Entry) × (H ≡ H ++ added) × All (λ (e : Entry). seat_of e.process ≡ seat) added
 no-entries H seat = ([], sym (append-nil H), All-nil (λ (e : Entry). seat_of e.process ≡ seat))
@@ -135,7 +164,9 @@ no-entries H seat = ([], sym (append-nil H), All-nil (λ (e : Entry). seat_of e.
 -- NOTHING LEAVES.
 calm-state : (s : KernelState) (new : World) (cut : PageName → Bool) (pending : ℕ) → WorldStep s.memory.world new s.memory.spaces stays cut → PendsTails s.memory.world cut s.pending pending → (opening : Flat) (seats : Seats) → StateFits opening s seats → StateFits opening (after_step s new pending) seats
 calm-state s new cut pending step tails opening seats fit =
-    event-state s new stays cut pending step tails opening seats seats refl tt (subst (λ (b : List BaySeen). FaultsFit s.history b (notes_of seats)) (sym step.bays) fit.faults) (λ k x of at for_call. fit.plans.sent k x of at for_call) fit
+    event-state s new stays cut pending step tails opening seats seats s.marks refl tt (subst (λ (b : List BaySeen). FaultsFit s.history b (notes_of seats)) (sym step.bays) fit.faults)
+    (marks-stay opening s (after_step s new pending) seats refl step.bays (λ tell. (step.tells (notes_of seats) tt fit.notes).1 tell) s.marks fit.marks)
+    (failures-stay s (after_step s new pending) seats step.bays s.marks fit.failures) refl (λ k x of at for_call. fit.plans.sent k x of at for_call) fit
 
 pub rule-calm : (s : KernelState) (new : World) (cut : PageName → Bool) (pending seat : ℕ) (sent : Option Sent) → WorldStep s.memory.world new s.memory.spaces stays cut → PendsTails s.memory.world cut s.pending pending → IsEvent seat s sent (after_step s new pending) sent
 rule-calm s new cut pending seat sent step tails = record {
@@ -183,6 +214,9 @@ rule-plans s new cut pending kept step tails runs seated may = record {
                 (caller (notes_of seats) of (ap (λ (x : KeptPlan). x.of) (some-inj kept k at) ∙ for_call));
             sent = calm.plans.sent;
           };
+          marks = calm.marks;
+          failures = calm.failures;
+          pushes = calm.pushes;
         }
 
 -- what is seen of the disks as one leaves: the note has it
@@ -225,12 +259,13 @@ faults-leave H bays new notes seat note idle noted was set f = record {
 
 -- A FLIGHT LEAVES.
 rule-begins : (s : KernelState) (new : World) (cut : PageName → Bool) (pending seat : ℕ) (sent : Sent) (kept : KeptPlan) → WorldStep s.memory.world new s.memory.spaces (leaves seat sent.note) cut → PendsTails s.memory.world cut s.pending pending
-    → s.plan ≡ Some kept → kept.seat ≡ seat → kept.of ≡ sent.of → IsEvent seat s None (after_step s new pending) (Some sent)
-rule-begins s new cut pending seat sent kept step tails plan mine of_is = record {
+    → s.plan ≡ Some kept → kept.seat ≡ seat → kept.of ≡ sent.of → MaySend s.memory.world sent.note → IsEvent seat s None (after_leaving s new pending seat sent.note) (Some sent)
+rule-begins s new cut pending seat sent kept step tails plan mine of_is sends = record {
   fits = λ opening seats is fit.
       let idle : notes_of seats seat ≡ None = ap (option_map (λ (x : Sent). x.note)) is in
-      event-state s new (leaves seat sent.note) cut pending step tails opening seats (with_sent seats seat (Some sent)) (notes-with seats seat (Some sent)) idle
+      event-state s new (leaves seat sent.note) cut pending step tails opening seats (with_sent seats seat (Some sent)) (after_leaving s new pending seat sent.note).marks (notes-with seats seat (Some sent)) idle
       (faults-leave s.history s.memory.world.store.bays new.store.bays (notes_of seats) seat sent.note idle (noted opening seats fit) step.bays.0 step.bays.1 fit.faults)
+      (marks-left opening seats is fit) (failures-left opening seats is fit) (pushes-left sent.note.writes (sent.note.name.object == 64))
       (λ k x of at for_call. elim (cases_eq k seat) [
         | inl e ↦
             let same : sent ≡ x = some-inj sent x (sym (this-seat seats seat (Some sent)) ∙ ap (with_sent seats seat (Some sent)) (sym e) ∙ at) in
@@ -244,11 +279,48 @@ rule-begins s new cut pending seat sent kept step tails plan mine of_is = record
       ap (λ (n : Notes). seen_in disk_fixed (bay_at new.store.bays number) n) (notes-with seats seat (Some sent))
       ∙ seen-leaves disk_fixed s.memory.world.store.bays new.store.bays (notes_of seats) seat sent.note idle (noted opening seats fit) step.bays.0 step.bays.1 number;
   grown = no-entries s.history seat;
-  follows = λ opening was. follows-kept opening s new pending step.tables was;
+  follows = λ opening was. let f = follows-kept opening s new pending step.tables was in record { shape = f.shape; refusals = f.refusals };
 }
   where
     noted : (opening : Flat) (seats : Seats) → StateFits opening s seats → (k t : ℕ) → bay_at s.memory.world.store.bays k ≡ out t → IsSome (notes_of seats t)
     noted opening seats fit k t at = let b = fit.notes.stored.each_bay k t at in ap is_some b.1
+
+    pushes-left : (writes slot : Bool) → length (cond (writes && not slot) (marks_begun s.marks seat sent.note.name.object sent.note.name.page (length s.history)) s.marks).pushes ≡ length s.marks.pushes
+    pushes-left false slot = refl
+    pushes-left true true = refl
+    pushes-left true false = length-set s.marks.pushes seat (Some (record { file = sent.note.name.object; page = sent.note.name.page; from = length s.history; whole = true }))
+
+    slot-is : (o : ℕ) → o ≡ 64 → (o == 64) ≡ true
+    slot-is o e = elim (eqb_tells o 64) [ inl same ↦ same.0 | inr ne ↦ absurd (ne.1 e) ]
+
+    -- the marks as it leaves: those of a push of a file's page, or of any other transfer
+    marks-left : (opening : Flat) (seats : Seats) → seats seat ≡ None → StateFits opening s seats → MarksOf opening (after_step s new pending) (with_sent seats seat (Some sent)) (marks_left s.marks seat sent.note (length s.history))
+    marks-left opening seats is fit = by_write sent.note.writes (sent.note.name.object == 64) refl refl
+      where
+        aside : ¬ PushesFile sent.note → MarksOf opening (after_step s new pending) (with_sent seats seat (Some sent)) s.marks
+        aside none = state_marks_rule.leaves opening s new cut pending seat seats sent s.marks (pages-fit opening s seats fit) fit.marks is step none
+
+        seated : seat < length s.marks.pushes
+        seated = let low = subst (λ (k : ℕ). k < length s.syncs) mine (fit.plans.plan kept plan).seated in let n = fit.pushes in omega (arith, low, n)
+
+        by_write : (a b : Bool) → sent.note.writes ≡ a → (sent.note.name.object == 64) ≡ b → MarksOf opening (after_step s new pending) (with_sent seats seat (Some sent)) (cond (a && not b) (marks_begun s.marks seat sent.note.name.object sent.note.name.page (length s.history)) s.marks)
+        by_write false b x y = aside (λ p. let z : false ≡ true = sym x ∙ p.writes in cc)
+        by_write true true x y = aside (λ p. let z : false ≡ true = sym (not-slot sent.note.name.object p.far) ∙ y in cc)
+        by_write true false x y = elim sends [
+          | inl send ↦ state_marks_rule.begins opening s new cut pending seat seats sent s.marks (pages-fit opening s seats fit) fit.marks is seated step send
+          | inr none ↦ absurd (none (record { writes = x; far = λ e. let z : false ≡ true = sym y ∙ slot-is sent.note.name.object e in cc }))
+        ]
+
+    failures-left : (opening : Flat) (seats : Seats) → seats seat ≡ None → StateFits opening s seats → FailuresOf (after_step s new pending) (with_sent seats seat (Some sent)) (marks_left s.marks seat sent.note (length s.history))
+    failures-left opening seats is fit = by_write sent.note.writes (sent.note.name.object == 64)
+      where
+        counts : FailuresOf (after_step s new pending) (with_sent seats seat (Some sent)) s.marks
+        counts = state_failures_rule.leaves opening s new cut pending seat seats sent s.marks (pages-fit opening s seats fit) fit.failures is step
+
+        by_write : (a b : Bool) → FailuresOf (after_step s new pending) (with_sent seats seat (Some sent)) (cond (a && not b) (marks_begun s.marks seat sent.note.name.object sent.note.name.page (length s.history)) s.marks)
+        by_write false b = counts
+        by_write true true = counts
+        by_write true false = failures_rule.begins (λ disk. faults_in (bay_at new.store.bays disk) (notes_of (with_sent seats seat (Some sent)))) s.marks seat sent.note.name.object sent.note.name.page (length s.history) counts
 
 -- what is seen of the disks as one comes back
 module _ {X : Type 0} (seen : DiskSeen → X) (bays new : List BaySeen) (notes : Notes) (seat : ℕ) (note : Note) (d : DiskSeen) (noted : notes seat ≡ Some note) (one : (k : ℕ) → bay_at bays k ≡ out seat → k ≡ note.number)
@@ -308,13 +380,30 @@ faults-return H bays new notes seat note d noted one was set more top f = record
     same : (disk : ℕ) → disk ≢ note.number → faults_in (bay_at new disk) (with_note notes seat None) ≡ faults_in (bay_at bays disk) notes
     same = seen-apart (λ disk. disk.faults) bays new notes seat note d noted one was set
 
+-- as many pushes are kept, or none, as there were
+pushes-by : (m : MarksSeen) (seat : ℕ) (note : Note) (entries : ℕ) (f : FlightSeen) (o : Progress) → length (marks_by m seat note entries f o).pushes ≡ length m.pushes
+pushes-by m seat note entries f fresh = refl
+pushes-by m seat note entries f done = length-set m.pushes seat None
+pushes-by m seat note entries f failed = length-set m.pushes seat None
+
+pushes-ended : (m : MarksSeen) (seat : ℕ) (note : Note) (entries : ℕ) (f : FlightSeen) → length (marks_ended m seat note entries f).pushes ≡ length m.pushes
+pushes-ended m seat note entries f = by_write note.writes (note.name.object == 64)
+  where
+    by_write : (a b : Bool) → length (cond (a && not b) (marks_by m seat note entries f f.outcome) m).pushes ≡ length m.pushes
+    by_write false b = refl
+    by_write true true = refl
+    by_write true false = pushes-by m seat note entries f f.outcome
+
 -- A FLIGHT COMES BACK.
-pub rule-ends : (s : KernelState) (new : World) (cut : PageName → Bool) (pending seat : ℕ) (sent : Sent) (f : FlightSeen) → WorldStep s.memory.world new s.memory.spaces (returns seat sent.note) cut → PendsTails s.memory.world cut s.pending pending → ComesBack sent.note f new → IsEvent seat s (Some sent) (after_step s new pending) None
+pub rule-ends : (s : KernelState) (new : World) (cut : PageName → Bool) (pending seat : ℕ) (sent : Sent) (f : FlightSeen) → WorldStep s.memory.world new s.memory.spaces (returns seat sent.note) cut → PendsTails s.memory.world cut s.pending pending → ComesBack sent.note f new → IsEvent seat s (Some sent) (after_return s new pending seat sent.note f) None
 rule-ends s new cut pending seat sent f step tails comes = record {
   fits = λ opening seats is fit.
       let noted : notes_of seats seat ≡ Some sent.note = ap (option_map (λ (x : Sent). x.note)) is in
-      event-state s new (returns seat sent.note) cut pending step tails opening seats (with_sent seats seat None) (notes-with seats seat None) noted
+      event-state s new (returns seat sent.note) cut pending step tails opening seats (with_sent seats seat None) (after_return s new pending seat sent.note f).marks (notes-with seats seat None) noted
       (faults-return s.history s.memory.world.store.bays new.store.bays (notes_of seats) seat sent.note step.bays.1.0 noted (λ k at. one-disk opening seats fit noted k at) step.bays.0 step.bays.1.1 later most fit.faults)
+      (state_marks_rule.ends opening s new cut pending seat seats sent f s.marks (pages-fit opening s seats fit) fit.marks is step comes)
+      (state_failures_rule.ends opening s new cut pending seat seats sent f s.marks (pages-fit opening s seats fit) fit.failures is step comes)
+      (pushes-ended s.marks seat sent.note (length s.history) f)
       (λ k x of at for_call. elim (cases_eq k seat) [
         | inl e ↦ absurd (let z : ◌≡◌ {A = Option Sent} None (Some x) = sym (this-seat seats seat None) ∙ ap (with_sent seats seat None) (sym e) ∙ at in cc)
         | inr ne ↦ fit.plans.sent k x of (sym (other-seat seats seat k None ne) ∙ at) for_call
@@ -325,7 +414,7 @@ rule-ends s new cut pending seat sent f step tails comes = record {
       ap (λ (n : Notes). seen_in disk_fixed (bay_at new.store.bays number) n) (notes-with seats seat None)
       ∙ seen-returns disk_fixed s.memory.world.store.bays new.store.bays (notes_of seats) seat sent.note step.bays.1.0 noted (λ k at. one-disk opening seats fit noted k at) step.bays.0 step.bays.1.1 unchanged number;
   grown = no-entries s.history seat;
-  follows = λ opening was. follows-kept opening s new pending step.tables was;
+  follows = λ opening was. let f = follows-kept opening s new pending step.tables was in record { shape = f.shape; refusals = f.refusals };
 }
   where
     home-inj : (x y : DiskSeen) → home x ≡ home y → x ≡ y

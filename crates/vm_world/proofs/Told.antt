@@ -16,7 +16,6 @@ use Rattle.page_store.specs.Seen.{StoreSeen, residence, residence_in, residence_
 use Rattle.page_store.specs.declared.plan.Hold.{Hold}
 use Rattle.page_store.specs.declared.plan.Hold.TheVariants as hold
 use Rattle.page_store.specs.declared.residence.Residence.TheVariants.{Moving}
-use Rattle.disk_marks.specs.Marks.{MarksSeen}
 use Rattle.flat_model.specs.Flat.{Flat}
 use Rattle.flat_model.specs.OpenLaws.{last_entry, IsOpenPart}
 use Rattle.vm_world.specs.EventLaws.{EventLaw}
@@ -140,35 +139,12 @@ forgets-plan seat s sent = record {
       planned = λ kept of at _. absurd (let z : ◌≡◌ {A = Option KeptPlan} None (Some kept) = at in cc);
       sent = fit.plans.sent;
     };
+    marks = fit.marks;
+    failures = fit.failures;
+    pushes = fit.pushes;
   });
   fixed = refl;
   disks = λ opening seats is fit. disks-still s (record s { plan = None }) seat sent refl seats is;
-  grown = no-entries s.history seat;
-  follows = λ opening was. record { shape = was.shape; refusals = was.refusals };
-}
-
--- OTHER MARKS.
-pub fits-marked : (opening : Flat) (s : KernelState) (seats : Seats) (m : MarksSeen) → StateFits opening s seats → StateFits opening (record s { marks = m }) seats
-fits-marked opening s seats m fit = record {
-  memory = fit.memory;
-  notes = fit.notes;
-  replays = fit.replays;
-  faults = fit.faults;
-  calls = fit.calls;
-  rooms = fit.rooms;
-  births = fit.births;
-  plans = record {
-    plan = λ kept at. let p = fit.plans.plan kept at in record { may = p.may; ready = p.ready; frame = p.frame; seated = p.seated; idle = p.idle };
-    planned = fit.plans.planned;
-    sent = fit.plans.sent;
-  };
-}
-
-remarks : (seat : ℕ) (s : KernelState) (sent : Option Sent) (m : MarksSeen) → IsEvent seat s sent (record s { marks = m }) sent
-remarks seat s sent m = record {
-  fits = λ opening seats is fit. subst (λ (x : Seats). StateFits opening (record s { marks = m }) x) (sym (same-seats seats seat sent is)) (fits-marked opening s seats m fit);
-  fixed = refl;
-  disks = λ opening seats is fit. disks-still s (record s { marks = m }) seat sent refl seats is;
   grown = no-entries s.history seat;
   follows = λ opening was. record { shape = was.shape; refusals = was.refusals };
 }
@@ -178,7 +154,6 @@ event_law = record {
   rests = rests;
   joined = event-then;
   forgets = forgets-plan;
-  remarks = remarks;
   holds = λ opening s seats p call h fit may. tells-holds opening s seats p call h fit may.cause;
   counted = λ opening s seats k e disk before after fit at is. fit.faults.reached k e disk before after at is;
   opens = opens;

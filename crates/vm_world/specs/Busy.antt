@@ -16,7 +16,7 @@ use Rattle.page_store.specs.Notes.{Note}
 use Rattle.page_store.specs.Seen.{StoreSeen}
 use Rattle.flat_model.specs.vnode_files.Files.{no_files}
 use Rattle.flat_model.specs.Words.{Page, IsPage}
-use Rattle.disk_marks.specs.Marks.{no_marks}
+use Rattle.vm_world.specs.Marks.{no_marks}
 use Rattle.vm_world.specs.FlatMemory.{Memory, flat_memory}
 use Rattle.vm_world.specs.Segments.{Segment, Spaces}
 use Rattle.vm_world.specs.State.{KernelState, Seats, notes_of}

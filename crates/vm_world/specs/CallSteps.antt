@@ -1,12 +1,14 @@
 -- Calls that are done on pages, as events. Public clauses cite this.
-use Rattle.std.specs.Prelude.{◌≡◌, ◌≢◌, ◌↔◌, ℕ, List, length, map, Option, None, IsSome, IsFalse}
+use Rattle.std.specs.Prelude.{◌≡◌, ◌≢◌, ◌↔◌, ℕ, suc, List, length, map, Option, None, IsSome, IsFalse}
 use Rattle.std.specs.FinMap as finite
 use Rattle.std.specs.FinSet as set
 use Rattle.std.specs.Ordering.{nat_cmp}
 use Rattle.flat_model.specs.vm_types.declared.call.Call.{Call}
-use Rattle.flat_model.specs.vm_types.declared.call.Call.TheVariants.{Fork}
+use Rattle.flat_model.specs.vm_types.declared.call.Call.TheVariants.{Fork, Sync}
 use Rattle.flat_model.specs.vm_types.declared.call.Entry.{Entry}
+use Rattle.flat_model.specs.vm_types.declared.call.Reply.{Reply}
 use Rattle.flat_model.specs.vm_types.declared.call.Reply.TheVariants.{Synced}
+use Rattle.page_store.specs.page_hash.declared.PageName.{PageName}
 use Rattle.flat_model.specs.vm_types.WellFormed.{IsWellFormed}
 use Rattle.page_store.specs.Notes.{Notes}
 use Rattle.flat_model.specs.Flat.{Flat, IsFlat}
@@ -18,11 +20,15 @@ use Rattle.vm_world.specs.Events.{IsEvent, CanTry}
 use Rattle.vm_world.specs.Failures.{with_entry_made}
 use Rattle.vm_world.specs.FlatMemory.{Memory, flat_memory}
 use Rattle.vm_world.specs.HistoryFits.{is_exit}
+use Rattle.vm_world.specs.Marks.{MarksSeen}
 use Rattle.vm_world.specs.MemoryFits.{MemoryFits}
 use Rattle.vm_world.specs.NotesFit.{NotesFit}
 use Rattle.vm_world.specs.Plans.{IsRefusal, refusal_in}
 use Rattle.vm_world.specs.Segments.{Spaces}
 use Rattle.vm_world.specs.State.{KernelState, mode_of}
+use Rattle.vm_world.specs.StateEntries.{marks_answered}
+use Rattle.vm_world.specs.StateSyncs.{AreWanted, AreWantedClean, marks_all_risen}
+use Rattle.vm_world.specs.Wants.{WantsClean, IsCleanPage}
 use Rattle.vm_world.specs.World.{World, core_of, AllTell}
 use Rattle.vm_world.specs.WorldSteps.{KeepsTables}
 
@@ -87,6 +93,27 @@ pub record MayEnter (s : KernelState) (seat : ℕ) (e : Entry) : Type 0 where
   pub file : MayUseFile e seat s.calls
   pub refusal : IsRefusal s.memory e.process e.call (refusal_in e.reply)
 
+-- The pages whose marks rose before a Sync answered, in some order: each is one that it wants clean, and all of these are among them.
+pub record RaisesPages (new : Memory) (p : ℕ) (call : Call) (entries : ℕ) (m n : MarksSeen) : Type 0 where
+  pub names : List PageName
+  pub each : AreWanted new p call names
+  pub all : AreWantedClean new p call names
+  pub rose : n ≡ marks_all_risen new.world m names entries
+
+-- WHAT AN ANSWER DOES TO THE MARKS, where memory was this and is this then, and there were so many entries. A Sync that is done raises those of the pages that
+-- it wants clean; a Truncate that makes its file shorter takes those of its pages back; no other answer changes any.
+abbrev pub MarksAfterReply : Memory → Memory → ℕ → Call → Reply → ℕ → MarksSeen → MarksSeen → Type 0
+MarksAfterReply old new p (Sync addr len) (Synced b) entries m n = RaisesPages new p (Sync addr len) entries m n
+MarksAfterReply old new p call reply entries m n = n ≡ marks_answered old.world.files call reply (suc entries) m
+
+-- Where a Sync is answered, each page that it wants clean is.
+abbrev pub IsCleanThen : Memory → Entry → Type 0
+IsCleanThen new e = (from : ℕ) (name : PageName) → e.reply ≡ Synced from → WantsClean new e.process e.call name → IsCleanPage new.world name
+
+-- The state with an entry made, and with these marks.
+abbrev pub with_entry_marked : KernelState → Entry → List (Option ℕ) → List (Option ℕ) → MarksSeen → KernelState
+with_entry_marked s e calls syncs n = record (with_entry_made s e calls syncs) { marks = n }
+
 -- A call that is done on pages alone is done. One change after another is a change, where the first leaves flat memory well formed and the second respects
 -- its shape. And a call that is
 -- done, of a seat that has nothing outside, is an event, with its entry.
@@ -96,7 +123,8 @@ pub record CallRule : Type 0 where
   pub joined : (p : ℕ) (u v w : Memory) (first second : Flat → Flat)
       → ((born : set.FinSet nat_cmp) (notes : Notes) → NotesFit u.world notes → AllTell u.world notes → IsFlat (flat_memory u born notes) → IsFlat (first (flat_memory u born notes)))
       → RespectsShape second → ChangesMemory p u v first → ChangesMemory p v w second → ChangesMemory p u w (λ F. second (first F))
-  pub done : (s : KernelState) (new : Memory) (seat : ℕ) (e : Entry) (calls syncs : List (Option ℕ)) → ActsOnMemory s.memory new e
+  pub done : (s : KernelState) (new : Memory) (seat : ℕ) (e : Entry) (calls syncs : List (Option ℕ)) (n : MarksSeen) → ActsOnMemory s.memory new e
+      → MarksAfterReply s.memory new e.process e.call e.reply (length s.history) s.marks n → IsCleanThen new e
       → StaysAlive new e.process e.call → MayEnter s seat e
       → LocksAfter e s.calls calls → StartsAfter e s.syncs syncs → length syncs ≡ length s.syncs
-      → IsEvent seat s None (with_entry_made (record s { memory = new }) e calls syncs) None
+      → IsEvent seat s None (with_entry_marked (record s { memory = new }) e calls syncs n) None

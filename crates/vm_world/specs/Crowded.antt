@@ -23,7 +23,7 @@ use Rattle.page_store.specs.declared.plan.Plan.TheVariants.{Push}
 use Rattle.flat_model.specs.Flat.{Flat, File}
 use Rattle.flat_model.specs.Parts.{read_line}
 use Rattle.flat_model.specs.Words.{Page, IsPage}
-use Rattle.disk_marks.specs.Marks.{no_marks}
+use Rattle.vm_world.specs.Marks.{MarksSeen, opening_row, unused_row}
 use Rattle.vm_world.specs.FlatMemory.{Memory, flat_memory, file_with_pages}
 use Rattle.vm_world.specs.Segments.{Segment, Spaces}
 use Rattle.vm_world.specs.State.{KernelState, Seats, notes_of, seats_of}
@@ -124,6 +124,13 @@ crowded_read page = record { process = 1; call = Read 0 0 100; reply = Bytes (re
 abbrev pub crowded_history : Page → List Entry
 crowded_history page = crowded_birth ∷ crowded_read page ∷ []
 
+-- The blocks of the files' pages have them since the opening; seat 1 pushes the page of file 1 since before the first entry.
+abbrev pub crowded_marks : MarksSeen
+crowded_marks = record {
+  rows = (unused_row ∷ opening_row false ∷ opening_row false ∷ []) ∷ (unused_row ∷ opening_row false ∷ []) ∷ [];
+  pushes = None ∷ Some (record { file = 1; page = 0; from = 0; whole = true }) ∷ None ∷ None ∷ [];
+}
+
 -- The tail of file 0 became zeros since; process 1's call of file 0 is between two parts; the Sync of process 2 began behind its birth; and a push of
 -- file 0's first page is planned for the clock, at seat 3.
 abbrev pub crowded_state : Page → KernelState
@@ -137,7 +144,7 @@ crowded_state page = record {
   plan = Some (record { seat = 3; plan = Push (file_name 0 0); of = None });
   parents = 0 ∷ 1 ∷ [];
   entries = 9 ∷ 9 ∷ [];
-  marks = no_marks;
+  marks = crowded_marks;
 }
 
 -- The flat memory from which it began: process 1 was alive alone.

@@ -6,7 +6,6 @@ use Rattle.flat_model.specs.vm_types.declared.call.Reply.TheVariants.{Io}
 use Rattle.page_store.specs.declared.plan.Hold.{Hold}
 use Rattle.flat_model.specs.Flat.{Flat}
 use Rattle.flat_model.specs.OpenLaws.{last_entry, IsOpenPart}
-use Rattle.disk_marks.specs.Marks.{MarksSeen}
 use Rattle.vm_world.specs.DiskPlaces.{HasCounted}
 use Rattle.vm_world.specs.Events.{IsEvent, IsSince}
 use Rattle.vm_world.specs.Opening.{no_seats}
@@ -14,8 +13,7 @@ use Rattle.vm_world.specs.State.{KernelState, Seats, Sent, notes_of, seats_of, w
 use Rattle.vm_world.specs.StateFits.{StateFits}
 use Rattle.vm_world.specs.Wants.{MayHold, seat_in}
 
--- Where nothing changes, that is an event; one event of a seat after another is an event; a plan that is kept may be forgotten; and marks may change, of
--- which the fit says nothing. A seat that is waited
+-- Where nothing changes, that is an event; one event of a seat after another is an event; and a plan that is kept may be forgotten. A seat that is waited
 -- for has something outside, or its process has a call of a file between two parts. The disk of each device error
 -- is there, and counted at least what the error names. What events keep holds of an opening that fits, and each event
 -- keeps it. A list of nothing but none is no seats; and the seats of a list, one of which has something else outside, are those of the list with that one changed.
@@ -23,7 +21,6 @@ pub record EventLaw : Type 0 where
   pub rests : (seat : ℕ) (s : KernelState) (sent : Option Sent) → IsEvent seat s sent s sent
   pub joined : (seat : ℕ) (s t u : KernelState) (before mid after : Option Sent) → IsEvent seat s before t mid → IsEvent seat t mid u after → IsEvent seat s before u after
   pub forgets : (seat : ℕ) (s : KernelState) (sent : Option Sent) → IsEvent seat s sent (record s { plan = None }) sent
-  pub remarks : (seat : ℕ) (s : KernelState) (sent : Option Sent) (m : MarksSeen) → IsEvent seat s sent (record s { marks = m }) sent
   pub holds : (opening : Flat) (s : KernelState) (seats : Seats) (p : ℕ) (call : Call) (h : Hold) → StateFits opening s seats → MayHold s.memory s.calls p call h
       → IsSome (seats (seat_in h)) ⊎ ((f : ℕ) × IsSomeAnd (last_entry (suc (seat_in h)) s.history) (IsOpenPart f))
   pub counted : (opening : Flat) (s : KernelState) (seats : Seats) (k : ℕ) (e : Entry) (disk before after : ℕ) → StateFits opening s seats

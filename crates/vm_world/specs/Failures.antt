@@ -8,7 +8,7 @@ use Rattle.page_store.specs.Flight.{FlightSeen, failed}
 use Rattle.vm_world.specs.EntryLaws.{LocksAfter, StartsAfter}
 use Rattle.vm_world.specs.Events.{IsEvent}
 use Rattle.vm_world.specs.State.{KernelState, Sent, seat_of}
-use Rattle.vm_world.specs.StateSteps.{after_step, PendsTails, ComesBack}
+use Rattle.vm_world.specs.StateSteps.{after_return, PendsTails, ComesBack}
 use Rattle.vm_world.specs.World.{World}
 use Rattle.vm_world.specs.WorldSteps.{returns, WorldStep}
 
@@ -29,4 +29,4 @@ pub record FailureRule : Type 0 where
       → ComesBack sent.note f new → f.outcome ≡ failed
       → LocksAfter (io_entry p call f.number f.before f.disk.faults pending) s.calls calls
       → StartsAfter (io_entry p call f.number f.before f.disk.faults pending) s.syncs syncs → length syncs ≡ length s.syncs
-      → IsEvent seat s (Some sent) (with_entry_made (after_step s new pending) (io_entry p call f.number f.before f.disk.faults pending) calls syncs) None
+      → IsEvent seat s (Some sent) (with_entry_made (after_return s new pending seat sent.note f) (io_entry p call f.number f.before f.disk.faults pending) calls syncs) None

@@ -9,6 +9,7 @@ pub mod MemoryFits
 pub mod NotesFit
 pub mod State
 pub mod Marks
+pub mod MarksOf
 pub mod DiskPlaces
 pub mod HistoryFits
 pub mod Wants
@@ -22,6 +23,9 @@ pub mod Crowded
 pub mod EntryLaws
 pub mod Plans
 pub mod StateSteps
+pub mod StateMarks
+pub mod StateEntries
+pub mod StateSyncs
 pub mod Failures
 pub mod CallSteps
 pub mod Serving
@@ -43,6 +47,8 @@ pub mod Words
 pub use Rattle.flat_model.specs.vm_types as vm_types
 pub use Rattle.flat_model.specs.vnode_files as vnode_files
 pub use Rattle.flat_model.specs as flat_model
+pub use Rattle.mark_laws.specs as mark_laws
+pub use Rattle.mark_laws.specs.disk_marks as disk_marks
 pub use Rattle.anon_slots.specs as anon_slots
 pub use Rattle.anon_map.specs as anon_map
 pub use Rattle.hat_layer.specs as hat_layer

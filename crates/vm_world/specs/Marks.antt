@@ -4,9 +4,9 @@ use Rattle.std.specs.FinMap as finite
 use Rattle.flat_model.specs.vnode_files.Files.{FilesSeen, vnode_at}
 use Rattle.flat_model.specs.vnode_files.Layout.{pages_kept, disk_of_file, block_of_page}
 use Rattle.flat_model.specs.vnode_files.Vnode.{is_blank}
-use Rattle.disk_marks.specs.declared.marks.Mark.TheVariants.{Held, Blank}
-use Rattle.disk_marks.specs.declared.marks.MarkRow.{MarkRow}
-pub use Rattle.disk_marks.specs.Marks.{MarksSeen, HasRow, mark_row, no_marks, unused_row}
+use Rattle.mark_laws.specs.disk_marks.declared.marks.Mark.TheVariants.{Held, Blank}
+use Rattle.mark_laws.specs.disk_marks.declared.marks.MarkRow.{MarkRow}
+pub use Rattle.mark_laws.specs.disk_marks.Marks.{MarksSeen, HasRow, mark_row, no_marks, unused_row}
 
 -- The row of a file's page is that of its block.
 abbrev pub page_row : FilesSeen → MarksSeen → ℕ → ℕ → MarkRow

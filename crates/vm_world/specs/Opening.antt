@@ -12,6 +12,7 @@ use Rattle.anon_slots.specs.Slots.{unused_slots, IsSoundAnonSlots}
 use Rattle.flat_model.specs.Counted.{top_count}
 use Rattle.vm_world.specs.FlatMemory.{Memory, flat_memory}
 use Rattle.vm_world.specs.FramesFit.{FilesFit, DisksFit}
+use Rattle.vm_world.specs.Marks.{AreOpeningMarks}
 use Rattle.vm_world.specs.State.{KernelState, Seats, is_top}
 use Rattle.vm_world.specs.StateFits.{StateFits}
 
@@ -36,7 +37,7 @@ pub record IsOpeningMemory (m : Memory) (parents : List ℕ) : Type 0 where
   pub disks : DisksFit m.world.store.bays m.world.files.disks (length m.world.anon.counts)
   pub spaces : (p : ℕ) → finite.get m.spaces p ≡ (if is_top parents p then Some [] else None)
 
--- The state at the opening: such memory; those are born who have no parent; and nothing happened yet.
+-- The state at the opening: such memory; those are born who have no parent; nothing happened yet; and the marks are as at the opening.
 pub record IsOpening (s : KernelState) : Type 0 where
   pub memory : IsOpeningMemory s.memory s.parents
   pub born : (p : ℕ) → set.contains s.born p ≡ is_top s.parents p
@@ -45,6 +46,7 @@ pub record IsOpening (s : KernelState) : Type 0 where
   pub calls : (f : ℕ) → slice_index_or s.calls f None ≡ None
   pub syncs : (seat : ℕ) → slice_index_or s.syncs seat None ≡ None
   pub plan : s.plan ≡ None
+  pub marks : AreOpeningMarks s.memory.world.files (length s.syncs) s.marks
 
 -- No seat has anything outside.
 abbrev pub no_seats : Seats

@@ -9,7 +9,7 @@ use Rattle.flat_model.specs.vm_types.declared.call.Entry.{Entry}
 use Rattle.page_store.specs.Notes.{Note, Notes}
 use Rattle.page_store.specs.declared.plan.Plan.{Plan}
 use Rattle.flat_model.specs.vnode_files.Vnode.{VnodeSeen}
-use Rattle.disk_marks.specs.Marks.{MarksSeen}
+use Rattle.mark_laws.specs.disk_marks.Marks.{MarksSeen}
 use Rattle.vm_world.specs.FlatMemory.{Memory}
 use Rattle.vm_world.specs.World.{StoreCore, core_of}
 

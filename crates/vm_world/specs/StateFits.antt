@@ -11,6 +11,7 @@ use Rattle.flat_model.specs.Step.{MayFail}
 use Rattle.flat_model.specs.Told.{entries_of}
 use Rattle.vm_world.specs.FlatMemory.{flat_memory}
 use Rattle.vm_world.specs.HistoryFits.{HistoryFits, FaultsFit, CallsFit, RoomsFit, BirthsFit}
+use Rattle.vm_world.specs.MarksOf.{MarksOf, FailuresOf}
 use Rattle.vm_world.specs.MemoryFits.{MemoryFits}
 use Rattle.vm_world.specs.NotesFit.{NotesFit}
 use Rattle.vm_world.specs.State.{KernelState, Seats, Sent, Caller, KeptPlan, notes_of, seat_of, room_of}
@@ -43,7 +44,8 @@ pub record PlansFit (s : KernelState) (seats : Seats) : Type 0 where
   pub sent : (seat : ℕ) (sent : Sent) (of : Caller) → seats seat ≡ Some sent → sent.of ≡ Some of
       → CallerFits (flat_memory s.memory s.born (notes_of seats)) s.history s.entries seat of
 
--- THE FIT. A state fits an opening with what the seats have outside.
+-- THE FIT. A state fits an opening with what the seats have outside. The marks are true where the disks tell, and the counts that they name are of failures;
+-- there is a push, or none, for each seat.
 pub record StateFits (opening : Flat) (s : KernelState) (seats : Seats) : Type 0 where
   pub memory : MemoryFits s.memory
   pub notes : NotesFit s.memory.world (notes_of seats)
@@ -53,3 +55,6 @@ pub record StateFits (opening : Flat) (s : KernelState) (seats : Seats) : Type 0
   pub rooms : RoomsFit s.history s.parents s.entries
   pub births : BirthsFit s.history s.parents s.memory.spaces s.born
   pub plans : PlansFit s seats
+  pub marks : MarksOf opening s seats s.marks
+  pub failures : FailuresOf s seats s.marks
+  pub pushes : length s.marks.pushes ≡ length s.syncs

@@ -7,6 +7,7 @@ use Rattle.page_store.specs.Notes.{Note}
 use Rattle.flat_model.specs.Counted.{top_count}
 use Rattle.flat_model.specs.Step.{is_bit_set}
 use Rattle.vm_world.specs.Events.{IsEvent, CanTry}
+use Rattle.vm_world.specs.MarksOf.{MaySend, marks_left, marks_ended}
 use Rattle.vm_world.specs.Plans.{CanRunPlan, MayMeetFault}
 use Rattle.vm_world.specs.State.{KernelState, KeptPlan, Caller, Sent}
 use Rattle.vm_world.specs.World.{World}
@@ -15,6 +16,13 @@ use Rattle.vm_world.specs.WorldSteps.{stays, leaves, returns, WorldStep, tails_l
 -- The state after a step of the world: these tails are pending then, and no plan is kept.
 abbrev pub after_step : KernelState → World → ℕ → KernelState
 after_step s new pending = record s { memory = record s.memory { world = new }; pending = pending; plan = None }
+
+-- The same as a flight of a seat leaves, and as it comes back: the marks change where it is the push of a file's page.
+abbrev pub after_leaving : KernelState → World → ℕ → ℕ → Note → KernelState
+after_leaving s new pending seat note = record (after_step s new pending) { marks = marks_left s.marks seat note (length s.history) }
+
+abbrev pub after_return : KernelState → World → ℕ → ℕ → Note → FlightSeen → KernelState
+after_return s new pending seat note f = record (after_step s new pending) { marks = marks_ended s.marks seat note (length s.history) f }
 
 -- The tails that were pending are, and those of the files whose last page the step took. Where no bit named a file past the last, none does.
 pub record PendsTails (old : World) (cut : PageName → Bool) (pending more : ℕ) : Type 0 where
@@ -40,8 +48,8 @@ pub record StateRule : Type 0 where
       → IsEvent kept.seat s None (record (after_step s new pending) { plan = Some kept }) None
   pub begins : (s : KernelState) (new : World) (cut : PageName → Bool) (pending seat : ℕ) (sent : Sent) (kept : KeptPlan)
       → WorldStep s.memory.world new s.memory.spaces (leaves seat sent.note) cut → PendsTails s.memory.world cut s.pending pending
-      → s.plan ≡ Some kept → kept.seat ≡ seat → kept.of ≡ sent.of
-      → IsEvent seat s None (after_step s new pending) (Some sent)
+      → s.plan ≡ Some kept → kept.seat ≡ seat → kept.of ≡ sent.of → MaySend s.memory.world sent.note
+      → IsEvent seat s None (after_leaving s new pending seat sent.note) (Some sent)
   pub ends : (s : KernelState) (new : World) (cut : PageName → Bool) (pending seat : ℕ) (sent : Sent) (f : FlightSeen)
       → WorldStep s.memory.world new s.memory.spaces (returns seat sent.note) cut → PendsTails s.memory.world cut s.pending pending → ComesBack sent.note f new
-      → IsEvent seat s (Some sent) (after_step s new pending) None
+      → IsEvent seat s (Some sent) (after_return s new pending seat sent.note f) None

@@ -16,11 +16,14 @@ ghost use Rattle.vm_world.specs.ProtectSteps.{ProtectRule};
 ghost use Rattle.vm_world.specs.SeatLaws.{SeatLaw};
 ghost use Rattle.vm_world.specs.ServingLaws.{ServingLaw};
 ghost use Rattle.vm_world.specs.SegmentSteps.{SegmentRule, SegmentCells};
+ghost use Rattle.vm_world.specs.StateEntries.{StateEntriesLaw};
+ghost use Rattle.vm_world.specs.StateMarks.{StateFailuresLaw, StateMarksLaw, StateRaiseLaw};
 ghost use Rattle.vm_world.specs.StateSteps.{StateRule};
+ghost use Rattle.vm_world.specs.StateSyncs.{StateSyncLaw};
 ghost use Rattle.vm_world.specs.SyncSteps.{StartRule};
 
 /// The state at the opening fits its own flat memory.
-#[tactic(auto, using(crate::proofs::Openings::opening_law))]
+#[tactic(auto, using(crate::proofs::OpeningFits::opening_law))]
 pub fn opening_law()
     ensures { OpeningLaw }
 {}
@@ -151,4 +154,34 @@ pub fn file_calls_law()
 #[tactic(auto, using(crate::proofs::FileLocks::file_locks_law))]
 pub fn file_locks_law()
     ensures { FileLocksLaw }
+{}
+
+/// The marks of a state stay true as a transfer begins and as it ends.
+#[tactic(auto, using(crate::proofs::Moving::state_marks_rule))]
+pub fn state_marks_law()
+    ensures { StateMarksLaw }
+{}
+
+/// They stay true as the mark of a clean page rises.
+#[tactic(auto, using(crate::proofs::Raised::state_raise_rule))]
+pub fn state_raise_law()
+    ensures { StateRaiseLaw }
+{}
+
+/// The failures that they name stay true as disks leave and come back.
+#[tactic(auto, using(crate::proofs::Failed::state_failures_rule))]
+pub fn state_failures_law()
+    ensures { StateFailuresLaw }
+{}
+
+/// They stay true with each entry, and so do the failures: also where files get longer or shorter.
+#[tactic(auto, using(crate::proofs::Answered::state_entries_rule))]
+pub fn state_entries_law()
+    ensures { StateEntriesLaw }
+{}
+
+/// They stay true with a Sync that answers, which raised the marks of its pages; and so do the failures.
+#[tactic(auto, using(crate::proofs::Synced::state_sync_rule))]
+pub fn state_sync_law()
+    ensures { StateSyncLaw }
 {}

@@ -17,7 +17,8 @@ pub use hat_layer::{Dropped, Hat};
 pub use laws::{
     busy_law, call_law, counts_law, crowded_law, entry_law, event_law, failure_law, file_calls_law,
     file_law, file_locks_law, fork_law, frame_law, gap_law, opening_law, protect_law, reserved_law,
-    seat_law, segment_cells_law, segment_law, serving_law, start_law, state_law,
+    seat_law, segment_cells_law, segment_law, serving_law, start_law, state_entries_law,
+    state_failures_law, state_law, state_marks_law, state_raise_law, state_sync_law,
 };
 pub use segment::Segment;
 pub use wants::Wants;

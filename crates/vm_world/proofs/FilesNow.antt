@@ -1,15 +1,15 @@
 -- The files by the history, and as they are.
-use Rattle.std.proofs.Common.{◌≡◌, ℕ, ◌<◌, Bool, true, false, cond, List, length, map, Option, Some, None, refl, sym, ap, ◌∙◌, subst}
+use Rattle.std.proofs.Common.{◌≡◌, ℕ, ◌<◌, Bool, true, false, cond, length, map, Option, Some, None, refl, sym, ap, ◌∙◌, subst}
 use Rattle.std.specs.Prelude.{slice_get, option_map}
 use Rattle.std.proofs.lemmas.Option.{slice_get-map}
-use Rattle.vm_world.specs.vnode_files.Files.{FilesSeen, vnode_at}
-use Rattle.vm_world.specs.vnode_files.Vnode.{VnodeSeen}
-use Rattle.vm_world.specs.vnode_files.declared.vnode.FileInfo.{FileInfo}
-use Rattle.vm_world.specs.flat_model.Flat.{Flat, File}
-use Rattle.vm_world.specs.flat_model.History.{replay}
-use Rattle.vm_world.specs.flat_model.Parts.{without_tail}
-use Rattle.vm_world.specs.flat_model.Step.{is_bit_set}
-use Rattle.vm_world.specs.flat_model.Words.{Page}
+use Rattle.flat_model.specs.vnode_files.Files.{FilesSeen, vnode_at}
+use Rattle.flat_model.specs.vnode_files.Vnode.{VnodeSeen}
+use Rattle.flat_model.specs.vnode_files.declared.vnode.FileInfo.{FileInfo}
+use Rattle.flat_model.specs.Flat.{Flat, File}
+use Rattle.flat_model.specs.History.{replay}
+use Rattle.flat_model.specs.Parts.{without_tail}
+use Rattle.flat_model.specs.Step.{is_bit_set}
+use Rattle.flat_model.specs.Words.{Page}
 use Rattle.page_store.specs.Notes.{Notes}
 use Rattle.vm_world.specs.FlatMemory.{flat_memory, file_with_pages}
 use Rattle.vm_world.specs.HistoryFits.{HistoryFits}
@@ -18,8 +18,8 @@ use Rattle.vm_world.specs.State.{KernelState, Seats, notes_of}
 use Rattle.vm_world.specs.World.{AllTell}
 use Rattle.vm_world.proofs.FlatWhole.{some-inj}
 use Rattle.vm_world.proofs.PageNames.{info-there, file-there}
-use Rattle.state_marks.specs.StateMarks.{PagesFit}
-use Rattle.state_marks.proofs.Places.{cleared}
+use Rattle.vm_world.specs.StateMarks.{PagesFit}
+use Rattle.vm_world.proofs.Places.{cleared}
 
 -- what isn't a page's bytes of a file, by its record
 pub record HasInfo (old : File) (info : FileInfo) : Type 0 where

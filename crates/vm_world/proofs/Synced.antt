@@ -1,29 +1,25 @@
 -- A Sync that answers.
-use Rattle.std.proofs.Common.{◌≡◌, ◌≢◌, ℕ, zero, suc, ◌+◌, ◌<◌, ◌≤◌, ◌||◌, Bool, true, false, cond, List, [], ◌∷◌, ◌++◌, length, Option, Some, None, refl, sym, ap, ◌∙◌, ◌⊎◌, inl, inr, subst, arith}
-use Rattle.std.specs.Prelude.{IsSome, IsTrue, is_some, nat_lt, option_and_then, option_map, slice_get}
+use Rattle.std.proofs.Common.{◌≡◌, ◌≢◌, ℕ, zero, suc, ◌+◌, ◌<◌, ◌≤◌, Bool, true, false, cond, List, [], ◌∷◌, ◌++◌, length, Option, Some, None, refl, sym, ap, ◌∙◌, ◌⊎◌, inl, inr, subst, arith}
+use Rattle.std.specs.Prelude.{IsSome, is_some, nat_lt, option_and_then, option_map, slice_get}
 use Rattle.std.specs.Option.{option_or}
 use Rattle.std.proofs.lemmas.Bool.{lt-ltb, or_right}
 use Rattle.std.proofs.lemmas.List.{take-append-le}
 use Rattle.std.proofs.lemmas.Option.{slice_get_within}
-use Rattle.vm_world.specs.vm_types.Pages.{pages_in}
-use Rattle.vm_world.specs.vm_types.declared.call.Call.{Call}
-use Rattle.vm_world.specs.vm_types.declared.call.Call.TheVariants.{Sync}
-use Rattle.vm_world.specs.vm_types.declared.call.Entry.{Entry}
-use Rattle.vm_world.specs.vm_types.declared.call.Kind.{Kind}
-use Rattle.vm_world.specs.vm_types.declared.call.Kind.TheVariants.{Shared}
-use Rattle.vm_world.specs.vm_types.declared.call.Object.{Object}
-use Rattle.vm_world.specs.vm_types.declared.call.Object.TheVariants as object
-use Rattle.vm_world.specs.vm_types.declared.call.Reply.TheVariants as reply
-use Rattle.vm_world.specs.vnode_files.Files.{vnode_at}
-use Rattle.vm_world.specs.flat_model.Flat.{Cell, File, Flat, IsFile, cell_at, cell_in}
-use Rattle.vm_world.specs.flat_model.History.{replay}
-use Rattle.vm_world.specs.flat_model.Words.{Page}
-use Rattle.vm_world.proofs.flat_model.Bytes.{All-slice_get as all-get}
-use Rattle.vm_world.proofs.flat_model.Histories.{slice_get-cases}
+use Rattle.flat_model.specs.vm_types.Pages.{pages_in}
+use Rattle.flat_model.specs.vm_types.declared.call.Call.{Call}
+use Rattle.flat_model.specs.vm_types.declared.call.Call.TheVariants.{Sync}
+use Rattle.flat_model.specs.vm_types.declared.call.Entry.{Entry}
+use Rattle.flat_model.specs.vm_types.declared.call.Kind.{Kind}
+use Rattle.flat_model.specs.vm_types.declared.call.Kind.TheVariants.{Shared}
+use Rattle.flat_model.specs.vm_types.declared.call.Object.TheVariants as object
+use Rattle.flat_model.specs.vnode_files.Files.{vnode_at}
+use Rattle.flat_model.specs.Flat.{Cell, File, Flat, IsFile, cell_at, cell_in}
+use Rattle.flat_model.specs.History.{replay}
+use Rattle.flat_model.specs.Words.{Page}
+use Rattle.flat_model.proofs.Bytes.{All-slice_get as all-get}
+use Rattle.flat_model.proofs.Histories.{slice_get-cases}
 use Rattle.page_store.specs.page_hash.declared.PageName.{PageName}
 use Rattle.page_store.specs.Bays.{bay_at}
-use Rattle.page_store.specs.Notes.{Notes}
-use Rattle.page_store.specs.Value.{content_of}
 use Rattle.mark_laws.specs.disk_marks.declared.marks.Mark.{Mark}
 use Rattle.mark_laws.specs.disk_marks.declared.marks.Mark.TheVariants.{Held, Blank, Unsure}
 use Rattle.mark_laws.specs.disk_marks.declared.marks.MarkRow.{MarkRow}
@@ -31,9 +27,9 @@ use Rattle.mark_laws.specs.disk_marks.declared.marks.Pushing.{Pushing}
 use Rattle.mark_laws.specs.disk_marks.Marks.{MarksSeen, mark_row, push_of}
 use Rattle.mark_laws.specs.disk_marks.Changes.{row_raised, marks_raised, marks_taken, marks_emptied}
 use Rattle.mark_laws.specs.EntryLaws.{ReachesNext}
-use Rattle.mark_laws.specs.MarksFit.{MarksFit, FailuresFit, pushed_page}
+use Rattle.mark_laws.specs.MarksFit.{FailuresFit, pushed_page}
 use Rattle.mark_laws.specs.Pages.{after_first, disk_place, HavePlacesApart}
-use Rattle.mark_laws.specs.Syncs.{HasSynced, ReachesDisk, entries_in}
+use Rattle.mark_laws.specs.Syncs.{HasSynced, ReachesDisk}
 use Rattle.mark_laws.proofs.Cutting.{row_taken}
 use Rattle.mark_laws.proofs.Dropping.{left-push}
 use Rattle.mark_laws.proofs.Failing.{failures_rule}
@@ -44,20 +40,20 @@ use Rattle.vm_world.specs.DiskPlaces.{faults_in}
 use Rattle.vm_world.specs.FlatMemory.{cell_of, flat_memory}
 use Rattle.vm_world.specs.HistoryFits.{HistoryFits}
 use Rattle.vm_world.specs.Pages.{contents_of}
-use Rattle.vm_world.specs.Segments.{Segment, Spot, own_slot, shown_name, slot_name, spot_at, object_name}
+use Rattle.vm_world.specs.Segments.{Segment, Spot, own_slot, spot_at, object_name}
 use Rattle.vm_world.specs.State.{KernelState, Seats, notes_of}
-use Rattle.vm_world.specs.Wants.{ShowsPage, WantsClean, object_has, shows_page}
-use Rattle.vm_world.specs.World.{World, AllTell, file_name, is_unpushed, slot_in, world_table}
+use Rattle.vm_world.specs.Wants.{WantsClean, object_has}
+use Rattle.vm_world.specs.World.{World, AllTell, file_name, is_unpushed, slot_in, world_table, slot_name}
 use Rattle.vm_world.proofs.Maps.{cell-at}
 use Rattle.vm_world.proofs.PageNames.{file-apart}
 use Rattle.vm_world.proofs.Spots.{IsSpotOf, spot-part}
-use Rattle.state_marks.specs.StateEntries.{MakesEntry}
-use Rattle.state_marks.specs.StateMarks.{PagesFit, MarksOf, MayRise, marks_risen}
-use Rattle.state_marks.specs.StateSyncs.{MayAllRise, AreWantedClean, StateSyncLaw, marks_all_risen}
-use Rattle.state_marks.proofs.Answered.{state_entries_rule}
-use Rattle.state_marks.proofs.FilesNow.{info-of}
-use Rattle.state_marks.proofs.Places.{place-there, places-apart}
-use Rattle.state_marks.proofs.Raised.{state_raise_rule}
+use Rattle.vm_world.specs.MarksOf.{MarksOf}
+use Rattle.vm_world.specs.StateMarks.{PagesFit, MayRise, marks_risen}
+use Rattle.vm_world.specs.StateSyncs.{MayAllRise, StateSyncLaw, marks_all_risen}
+use Rattle.vm_world.proofs.Answered.{state_entries_rule}
+use Rattle.vm_world.proofs.FilesNow.{info-of}
+use Rattle.vm_world.proofs.Places.{place-there, places-apart}
+use Rattle.vm_world.proofs.Raised.{state_raise_rule}
 
 -- ALL RISE
 module _ (opening : Flat) (s : KernelState) (seats : Seats) (fit : PagesFit opening s seats) where
@@ -125,7 +121,7 @@ module _ (opening : Flat) (s : KernelState) (seats : Seats) (fit : PagesFit open
     all-stay (name ∷ names) m n marks may is =
         all-stay names (marks_risen s.memory.world m name (length s.history)) n (state_raise_rule.raises opening s seats m name fit marks (may 0 name refl)) (λ i. may (suc i)) (stays m name marks (may 0 name refl) n is)
 
-    pub each-rises : (names : List PageName) (m : MarksSeen) (i : ℕ) (n : PageName) → MarksOf opening s seats m → MayAllRise s.memory.world names → slice_get names i ≡ Some n
+    each-rises : (names : List PageName) (m : MarksSeen) (i : ℕ) (n : PageName) → MarksOf opening s seats m → MayAllRise s.memory.world names → slice_get names i ≡ Some n
         → IsRaised (marks_all_risen s.memory.world m names (length s.history)) n
     each-rises [] m i n marks may is = absurd (let z : ◌≡◌ {A = Option PageName} None (Some n) = is in cc)
     each-rises (name ∷ names) m zero n marks may is =

@@ -4,8 +4,8 @@ use Rattle.std.specs.Prelude.{not, slice_index_or, slice_get, option_map, unwrap
 use Rattle.std.specs.FinMap as finite
 use Rattle.std.specs.Option.{option_map_or}
 use Rattle.std.proofs.lemmas.Option.{slice_get-map, slice_get_within}
-use Rattle.vm_world.specs.vm_types.Pages.{pages_in, bytes_before}
-use Rattle.vm_world.specs.vm_types.declared.call.Entry.{Entry}
+use Rattle.flat_model.specs.vm_types.Pages.{pages_in, bytes_before}
+use Rattle.flat_model.specs.vm_types.declared.call.Entry.{Entry}
 use Rattle.page_store.specs.core_arena.Bytes.{zeros}
 use Rattle.page_store.specs.page_hash.Names.{find}
 use Rattle.page_store.specs.page_hash.declared.PageName.{PageName}
@@ -15,14 +15,14 @@ use Rattle.page_store.specs.Layout.{FileBlocks, page_place}
 use Rattle.page_store.specs.Notes.{no_notes}
 use Rattle.page_store.specs.Value.{content_of, value, value_in, backing_value}
 use Rattle.page_store.specs.declared.place.Place.{Place}
-use Rattle.vm_world.specs.vnode_files.declared.vnode.FileInfo.{FileInfo}
-use Rattle.vm_world.specs.vnode_files.Files.{vnode_at, block_count}
-use Rattle.vm_world.specs.vnode_files.Grow.{page_count}
-use Rattle.vm_world.specs.vnode_files.Layout.{disk_of_file, block_of_page}
-use Rattle.vm_world.specs.vnode_files.Vnode.{VnodeSeen, page_blocks, is_blank}
-use Rattle.vm_world.proofs.vnode_files.BlockLemmas.{length-page_blocks}
-use Rattle.vm_world.proofs.vnode_files.LayoutLaws.{file_layout_law}
-use Rattle.vm_world.specs.flat_model.Flat.{File, Flat}
+use Rattle.flat_model.specs.vnode_files.declared.vnode.FileInfo.{FileInfo}
+use Rattle.flat_model.specs.vnode_files.Files.{vnode_at, block_count}
+use Rattle.flat_model.specs.vnode_files.Grow.{page_count}
+use Rattle.flat_model.specs.vnode_files.Layout.{disk_of_file, block_of_page}
+use Rattle.flat_model.specs.vnode_files.Vnode.{VnodeSeen, page_blocks, is_blank}
+use Rattle.flat_model.proofs.vnode_files.BlockLemmas.{length-page_blocks}
+use Rattle.flat_model.proofs.vnode_files.LayoutLaws.{file_layout_law}
+use Rattle.flat_model.specs.Flat.{File, Flat}
 use Rattle.vm_world.specs.FlatMemory.{Memory, flat_memory, file_with_pages}
 use Rattle.vm_world.specs.HistoryFits.{HistoryFits}
 use Rattle.vm_world.specs.Opening.{IsOpening, IsOpeningMemory}
@@ -40,15 +40,14 @@ use Rattle.mark_laws.specs.MarksFit.{BlockFits, MarksFit}
 use Rattle.mark_laws.proofs.Rows.{told-all}
 use Rattle.mark_laws.proofs.Words.{few-bytes, held-inj, blank-inj}
 use Rattle.vm_world.specs.Marks.{AreOpeningMarks, opening_row}
-use Rattle.state_marks.specs.OpeningMarks.{OpeningMarksLaw}
 use Rattle.page_store.proofs.page_hash.NameLaws.{find-at}
 use Rattle.vm_world.proofs.FilePages.{file-in, length-pages_from}
 use Rattle.vm_world.proofs.FlatWhole.{some-inj}
-use Rattle.vm_world.proofs.Openings.{opening_law, opening-pages}
+use Rattle.vm_world.proofs.Openings.{opening-pages}
 use Rattle.std.proofs.lemmas.Bool.{cases_lt}
 use Rattle.std.proofs.lemmas.List.{length-append, length-take, length-replicate}
 use Rattle.vm_world.proofs.PageNames.{file-page, file-place, file-there, file-apart, info-there, not-slot}
-use Rattle.state_marks.proofs.Places.{kept-there, kept-place, end-now, page-now}
+use Rattle.vm_world.proofs.Places.{kept-there, kept-place, end-now, page-now}
 use Rattle.page_store.proofs.EndLemmas.{clip-twice}
 
 -- zeros that end with the file are zeros
@@ -273,6 +272,3 @@ module _ (s : KernelState) (m : MarksSeen) (seats : ℕ) (o : IsOpening s) (mark
     synced = λ k b name disk block syn at. absurd (let z : ◌≡◌ {A = Option Entry} None (Some syn.entry) = syn.at in cc);
     later = λ k b seat name push syn is named. absurd (let z : ◌≡◌ {A = Option Entry} None (Some syn.entry) = syn.at in cc);
   }
-
-pub opening_marks_rule : OpeningMarksLaw
-opening_marks_rule = record { fits = λ s m seats o marks tell. subst (λ (H : List Entry). MarksFit (flat_memory s.memory s.born no_notes) H (content_of s.memory.world.store no_notes) no_notes m) (sym o.history) (opening-marks s m seats o marks tell ((opening_law.fits s o).replays tell)) }

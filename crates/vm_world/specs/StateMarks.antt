@@ -1,21 +1,15 @@
 -- The marks of a state, and how transfers and raises keep them true. Public clauses cite this.
-use Rattle.std.specs.Prelude.{◌≡◌, ◌≢◌, ◌<◌, ◌==◌, ◌&&◌, ℕ, Bool, length, not, if◌then◌else◌, Some, None, IsTrue}
-use Rattle.vm_world.specs.flat_model.Flat.{Flat}
-use Rattle.page_store.specs.core_arena.Bytes.{bytes_at}
-use Rattle.page_store.specs.page_hash.Names.{name_at}
+use Rattle.std.specs.Prelude.{◌≡◌, ◌≢◌, ◌<◌, ℕ, Bool, length, if◌then◌else◌, Some, None, IsTrue}
+use Rattle.flat_model.specs.Flat.{Flat}
 use Rattle.page_store.specs.page_hash.declared.PageName.{PageName}
-use Rattle.page_store.specs.Bays.{bay_at}
 use Rattle.page_store.specs.Flight.{FlightSeen}
-use Rattle.page_store.specs.Notes.{Note}
-use Rattle.page_store.specs.Value.{content_of}
 use Rattle.mark_laws.specs.disk_marks.declared.marks.Pushing.{Pushing}
 use Rattle.mark_laws.specs.disk_marks.Marks.{MarksSeen, push_of}
 use Rattle.mark_laws.specs.disk_marks.Changes.{marks_begun, marks_raised, marks_emptied}
-use Rattle.mark_laws.specs.MarksFit.{pushed_page, PushesFile, MarksFit, FailuresFit}
-use Rattle.mark_laws.specs.MarkLaws.{marks_by}
-use Rattle.vm_world.specs.DiskPlaces.{faults_in}
+use Rattle.mark_laws.specs.MarksFit.{pushed_page, PushesFile}
 use Rattle.vm_world.specs.FlatMemory.{flat_memory}
 use Rattle.vm_world.specs.HistoryFits.{HistoryFits}
+use Rattle.vm_world.specs.MarksOf.{MarksOf, FailuresOf, SendsFrame, marks_ended}
 use Rattle.vm_world.specs.MemoryFits.{MemoryFits}
 use Rattle.vm_world.specs.NotesFit.{NotesFit}
 use Rattle.vm_world.specs.State.{KernelState, Seats, Sent, notes_of, with_sent}
@@ -29,28 +23,6 @@ pub record PagesFit (opening : Flat) (s : KernelState) (seats : Seats) : Type 0 
   pub memory : MemoryFits s.memory
   pub notes : NotesFit s.memory.world (notes_of seats)
   pub replays : AllTell s.memory.world (notes_of seats) → HistoryFits opening s.history s.pending (flat_memory s.memory s.born (notes_of seats))
-
--- The marks of a state fit, where the disks tell.
-abbrev pub MarksOf : Flat → KernelState → Seats → MarksSeen → Type 0
-MarksOf opening s seats m = AllTell s.memory.world (notes_of seats) → MarksFit opening s.history (content_of s.memory.world.store (notes_of seats)) (notes_of seats) m
-
--- The counts that they name are of failures, whether disks tell or not.
-abbrev pub FailuresOf : KernelState → Seats → MarksSeen → Type 0
-FailuresOf s seats m = FailuresFit (λ disk. faults_in (bay_at s.memory.world.store.bays disk) (notes_of seats)) m
-
--- A push of a file's page sends what its frame has at home, to the page's place.
-pub record SendsFrame (w : World) (note : Note) : Type 0 where
-  pub pushes : PushesFile note
-  pub frame : ℕ
-  pub holds : name_at w.store.names frame ≡ Some note.name
-  pub bytes : bytes_at w.store.frames frame ≡ Some note.bytes
-  pub disk : (world_table w note.name).disk ≡ note.number
-  pub block : (world_table w note.name).block ≡ note.block
-  pub valid : (world_table w note.name).valid ≡ note.valid
-
--- The marks as a transfer ends, by how it went, and after so many entries.
-abbrev pub marks_ended : MarksSeen → ℕ → Note → ℕ → FlightSeen → MarksSeen
-marks_ended m seat note j f = if note.writes && not (note.name.object == 64) then marks_by m seat note j f f.outcome else m
 
 -- THE MARKS STAY TRUE as a transfer begins, a push of a file's page or any other, and as one ends.
 pub record StateMarksLaw : Type 0 where

@@ -1,24 +1,21 @@
 -- The marks of a state with an entry more.
-use Rattle.std.proofs.Common.{◌≡◌, ◌≢◌, ℕ, zero, suc, ◌<◌, ◌≤◌, Bool, true, false, cond, List, [], ◌∷◌, ◌++◌, length, map, Option, Some, None, refl, sym, ap, ◌∙◌, inl, inr, subst, arith}
-use Rattle.std.specs.Prelude.{slice_index_or, slice_get, option_map, nat_lt, take}
+use Rattle.std.proofs.Common.{◌≡◌, ◌≢◌, ℕ, zero, suc, ◌<◌, ◌≤◌, Bool, true, false, cond, List, [], ◌∷◌, ◌++◌, length, Option, refl, sym, ap, ◌∙◌, inl, inr, subst, arith}
+use Rattle.std.specs.Prelude.{slice_index_or, nat_lt, take}
 use Rattle.std.proofs.lemmas.Bool.{cases_Bool, ltb-true, ltb-false}
-use Rattle.std.proofs.lemmas.Option.{slice_get-map}
-use Rattle.vm_world.specs.vm_types.declared.call.Call.{Call}
-use Rattle.vm_world.specs.vm_types.declared.call.Call.TheVariants.{Load, Store, Map, Unmap, Protect, Sync, Read, Write, Truncate, Fork, Exit}
-use Rattle.vm_world.specs.vm_types.declared.call.Entry.{Entry}
-use Rattle.vm_world.specs.vm_types.declared.call.Reply.{Reply}
-use Rattle.vm_world.specs.vm_types.declared.call.Reply.TheVariants as reply
-use Rattle.vm_world.specs.vnode_files.Files.{FilesSeen, vnode_at}
-use Rattle.vm_world.specs.vnode_files.Vnode.{VnodeSeen, no_vnode, page_blocks}
-use Rattle.vm_world.specs.vm_types.Pages.{pages_in}
-use Rattle.vm_world.specs.vnode_files.declared.extent.Extent.{Extent}
-use Rattle.vm_world.specs.vnode_files.declared.vnode.FileInfo.{FileInfo}
-use Rattle.vm_world.specs.flat_model.Flat.{Flat, File}
-use Rattle.vm_world.specs.flat_model.History.{replay}
-use Rattle.vm_world.specs.flat_model.Parts.{without_tail}
-use Rattle.vm_world.specs.flat_model.Step.{IsStep, is_bit_set}
-use Rattle.vm_world.specs.flat_model.Words.{Page}
-use Rattle.vm_world.proofs.flat_model.Histories.{Steps-front, slice_get-cases}
+use Rattle.flat_model.specs.vm_types.declared.call.Call.{Call}
+use Rattle.flat_model.specs.vm_types.declared.call.Call.TheVariants.{Load, Store, Map, Unmap, Protect, Sync, Read, Write, Truncate, Fork, Exit}
+use Rattle.flat_model.specs.vm_types.declared.call.Entry.{Entry}
+use Rattle.flat_model.specs.vm_types.declared.call.Reply.{Reply}
+use Rattle.flat_model.specs.vm_types.declared.call.Reply.TheVariants as reply
+use Rattle.flat_model.specs.vnode_files.Files.{FilesSeen, vnode_at}
+use Rattle.flat_model.specs.vnode_files.Vnode.{VnodeSeen, no_vnode, page_blocks}
+use Rattle.flat_model.specs.vm_types.Pages.{pages_in}
+use Rattle.flat_model.specs.vnode_files.declared.extent.Extent.{Extent}
+use Rattle.flat_model.specs.vnode_files.declared.vnode.FileInfo.{FileInfo}
+use Rattle.flat_model.specs.Flat.{Flat, File}
+use Rattle.flat_model.specs.History.{replay}
+use Rattle.flat_model.specs.Step.{IsStep}
+use Rattle.flat_model.proofs.Histories.{Steps-front, slice_get-cases}
 use Rattle.page_store.specs.page_hash.declared.PageName.{PageName}
 use Rattle.page_store.specs.Bays.{BaySeen, bay_at}
 use Rattle.page_store.specs.Notes.{Notes}
@@ -33,17 +30,15 @@ use Rattle.mark_laws.proofs.Failing.{failures_rule}
 use Rattle.mark_laws.proofs.Shortened.{entries_rule}
 use Rattle.mark_laws.proofs.Shortenings.{cuts_rule}
 use Rattle.vm_world.specs.DiskPlaces.{faults_in}
-use Rattle.vm_world.specs.FlatMemory.{flat_memory, file_with_pages}
+use Rattle.vm_world.specs.FlatMemory.{flat_memory}
 use Rattle.vm_world.specs.HistoryFits.{HistoryFits}
-use Rattle.vm_world.specs.Pages.{contents_of}
 use Rattle.vm_world.specs.State.{KernelState, Seats, notes_of}
 use Rattle.vm_world.specs.World.{AllTell}
-use Rattle.vm_world.proofs.FlatWhole.{some-inj}
-use Rattle.vm_world.proofs.PageNames.{info-there, file-there}
-use Rattle.state_marks.specs.StateMarks.{PagesFit, MarksOf}
-use Rattle.state_marks.specs.StateEntries.{marks_answered, MakesEntry, StateEntriesLaw}
-use Rattle.state_marks.proofs.FilesNow.{info-of, file-of}
-use Rattle.state_marks.proofs.Places.{places-apart}
+use Rattle.vm_world.specs.MarksOf.{MarksOf}
+use Rattle.vm_world.specs.StateMarks.{PagesFit}
+use Rattle.vm_world.specs.StateEntries.{marks_answered, MakesEntry, StateEntriesLaw}
+use Rattle.vm_world.proofs.FilesNow.{info-of, file-of}
+use Rattle.vm_world.proofs.Places.{places-apart}
 
 -- a file that isn't there has no bytes
 no-length : (xs : List VnodeSeen) (f : ℕ) → length xs ≤ f → slice_index_or xs f no_vnode ≡ no_vnode

@@ -1,10 +1,10 @@
 -- The mark of a page rises as a Sync answers.
-use Rattle.vm_world.proofs.flat_model.Bytes.{All-slice_get as all-get}
+use Rattle.flat_model.proofs.Bytes.{All-slice_get as all-get}
 use Rattle.std.proofs.Common.{◌≡◌, ◌≢◌, ℕ, ◌<◌, ◌+◌, ◌-◌, Bool, true, false, cond, List, [], length, map, take, replicate, Option, Some, None, refl, sym, ap, ◌∙◌, ◌⊎◌, inl, inr, subst, arith}
 use Rattle.std.specs.Prelude.{slice_index_or, slice_get, option_map, is_some, is_none, IfSome, IsTrue, IsSome}
 use Rattle.std.proofs.lemmas.List.{length-append, length-take, length-replicate}
 use Rattle.std.proofs.lemmas.Option.{slice_get-map}
-use Rattle.vm_world.specs.vm_types.Pages.{pages_in}
+use Rattle.flat_model.specs.vm_types.Pages.{pages_in}
 use Rattle.page_store.specs.core_arena.Bytes.{bytes_at, zeros}
 use Rattle.page_store.specs.page_hash.Names.{find, name_at}
 use Rattle.page_store.specs.page_hash.declared.PageName.{PageName}
@@ -21,14 +21,14 @@ use Rattle.page_store.specs.declared.place.Place.{Place}
 use Rattle.page_store.specs.declared.residence.Residence.TheVariants.{Home}
 use Rattle.page_store.proofs.EndLemmas.{clip-twice}
 use Rattle.page_store.proofs.QueryLemmas.{home-is, found-within}
-use Rattle.vm_world.specs.vnode_files.Files.{vnode_at}
-use Rattle.vm_world.specs.vnode_files.Grow.{page_count}
-use Rattle.vm_world.specs.vnode_files.Vnode.{VnodeSeen, page_blocks}
-use Rattle.vm_world.specs.flat_model.Flat.{Flat, IsFlat, IsFile}
-use Rattle.vm_world.specs.flat_model.History.{replay}
-use Rattle.vm_world.specs.flat_model.Step.{is_bit_set}
-use Rattle.vm_world.specs.flat_model.Words.{IsPage}
-use Rattle.vm_world.proofs.flat_model.WellFormed.{IsFlat-tails_cleared}
+use Rattle.flat_model.specs.vnode_files.Files.{vnode_at}
+use Rattle.flat_model.specs.vnode_files.Grow.{page_count}
+use Rattle.flat_model.specs.vnode_files.Vnode.{VnodeSeen, page_blocks}
+use Rattle.flat_model.specs.Flat.{Flat, IsFlat, IsFile}
+use Rattle.flat_model.specs.History.{replay}
+use Rattle.flat_model.specs.Step.{is_bit_set}
+use Rattle.flat_model.specs.Words.{IsPage}
+use Rattle.flat_model.proofs.WellFormed.{IsFlat-tails_cleared}
 use Rattle.vm_world.specs.FlatMemory.{flat_memory, pages_from, file_with_pages}
 use Rattle.vm_world.specs.HistoryFits.{HistoryFits}
 use Rattle.vm_world.specs.NotesFit.{MayWriteGone}
@@ -42,12 +42,13 @@ use Rattle.mark_laws.specs.Pages.{bytes_there, page_there, disk_place, HavePlace
 use Rattle.mark_laws.specs.MarksFit.{pushed_page, IsBeingWritten, MarksFit}
 use Rattle.mark_laws.proofs.Rising.{raises_rule}
 use Rattle.mark_laws.proofs.Words.{few-bytes}
-use Rattle.state_marks.specs.StateMarks.{PagesFit, MarksOf, MayRise, StateRaiseLaw, marks_risen}
+use Rattle.vm_world.specs.MarksOf.{MarksOf}
+use Rattle.vm_world.specs.StateMarks.{PagesFit, MayRise, StateRaiseLaw, marks_risen}
 use Rattle.vm_world.proofs.FilePages.{page-in, file-in}
 use Rattle.vm_world.proofs.KeptStarts.{start_rule}
 use Rattle.vm_world.proofs.PageNames.{not-slot, file-there}
-use Rattle.state_marks.proofs.Places.{real, below, kept, table-place, place-there, valid-there, shows-there, places-apart}
-use Rattle.state_marks.proofs.OpeningRows.{zeros-there}
+use Rattle.vm_world.proofs.Places.{real, below, kept, table-place, place-there, valid-there, shows-there, places-apart}
+use Rattle.vm_world.proofs.OpeningRows.{zeros-there}
 
 -- a test doesn't pass and fail
 not-both : (b : Bool) → b ≡ true → b ≡ false → ⊥

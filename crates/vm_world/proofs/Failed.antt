@@ -3,7 +3,7 @@ use Rattle.std.proofs.Common.{◌≡◌, ◌≢◌, ℕ, ◌==◌, Bool, true, f
 use Rattle.std.specs.Prelude.{slice_set, option_map, ◌&&◌, not}
 use Rattle.std.proofs.lemmas.Bool.{cases_eq}
 use Rattle.std.proofs.lemmas.List.{get_or-set_same, get_or-set_other}
-use Rattle.vm_world.specs.flat_model.Flat.{Flat}
+use Rattle.flat_model.specs.Flat.{Flat}
 use Rattle.page_store.specs.block_device.Counts.{HasRisen}
 use Rattle.page_store.specs.block_device.DiskSeen.{DiskSeen}
 use Rattle.page_store.specs.page_hash.declared.PageName.{PageName}
@@ -22,8 +22,9 @@ use Rattle.vm_world.specs.StateSteps.{after_step, ComesBack}
 use Rattle.vm_world.specs.World.{World}
 use Rattle.vm_world.specs.WorldSteps.{WorldStep, leaves, returns}
 use Rattle.vm_world.proofs.FlatWhole.{some-inj}
-use Rattle.state_marks.specs.StateMarks.{PagesFit, FailuresOf, StateFailuresLaw, marks_ended}
-use Rattle.state_marks.proofs.Moving.{notes-leave, notes-return}
+use Rattle.vm_world.specs.MarksOf.{FailuresOf, marks_ended}
+use Rattle.vm_world.specs.StateMarks.{PagesFit, StateFailuresLaw}
+use Rattle.vm_world.proofs.Moving.{notes-leave, notes-return}
 
 module _ (opening : Flat) (s : KernelState) (new : World) (cut : PageName → Bool) (pending seat : ℕ) (seats : Seats) (sent : Sent) (m : MarksSeen) (fit : PagesFit opening s seats) (fails : FailuresOf s seats m) where
   abbrev bays : List BaySeen

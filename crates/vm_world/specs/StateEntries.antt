@@ -1,13 +1,13 @@
 -- The marks of a state, and how entries keep them true. Public clauses cite this.
 use Rattle.std.specs.Prelude.{◌≡◌, ◌≢◌, ◌++◌, ℕ, suc, [], ◌∷◌, length, nat_lt, if◌then◌else◌}
-use Rattle.vm_world.specs.vm_types.declared.call.Call.{Call}
-use Rattle.vm_world.specs.vm_types.declared.call.Call.TheVariants.{Truncate}
-use Rattle.vm_world.specs.vm_types.declared.call.Entry.{Entry}
-use Rattle.vm_world.specs.vm_types.declared.call.Reply.{Reply}
-use Rattle.vm_world.specs.vm_types.declared.call.Reply.TheVariants.{Done, Synced}
-use Rattle.vm_world.specs.flat_model.Flat.{Flat}
-use Rattle.vm_world.specs.flat_model.History.{Legal}
-use Rattle.vm_world.specs.vnode_files.Files.{FilesSeen, vnode_at}
+use Rattle.flat_model.specs.vm_types.declared.call.Call.{Call}
+use Rattle.flat_model.specs.vm_types.declared.call.Call.TheVariants.{Truncate}
+use Rattle.flat_model.specs.vm_types.declared.call.Entry.{Entry}
+use Rattle.flat_model.specs.vm_types.declared.call.Reply.{Reply}
+use Rattle.flat_model.specs.vm_types.declared.call.Reply.TheVariants.{Done, Synced}
+use Rattle.flat_model.specs.Flat.{Flat}
+use Rattle.flat_model.specs.History.{Legal}
+use Rattle.flat_model.specs.vnode_files.Files.{FilesSeen, vnode_at}
 use Rattle.page_store.specs.page_hash.declared.PageName.{PageName}
 use Rattle.mark_laws.specs.disk_marks.Marks.{MarksSeen}
 use Rattle.mark_laws.specs.Cuts.{marks_shortened}
@@ -15,7 +15,8 @@ use Rattle.mark_laws.specs.EntryLaws.{ReachesNext}
 use Rattle.mark_laws.specs.Syncs.{HasSynced}
 use Rattle.vm_world.specs.State.{KernelState, Seats, notes_of}
 use Rattle.vm_world.specs.World.{AllTell}
-use Rattle.state_marks.specs.StateMarks.{PagesFit, MarksOf, FailuresOf}
+use Rattle.vm_world.specs.MarksOf.{MarksOf, FailuresOf}
+use Rattle.vm_world.specs.StateMarks.{PagesFit}
 
 -- The marks once a call was answered, and there are so many entries: a Truncate that is done, of a file that had more bytes, changes those of the file.
 abbrev pub marks_answered : FilesSeen → Call → Reply → ℕ → MarksSeen → MarksSeen

@@ -1,5 +1,5 @@
 -- Where pages of files are by the history, and by the files as they are.
-use Rattle.vm_world.proofs.flat_model.Bytes.{All-slice_get as all-get}
+use Rattle.flat_model.proofs.Bytes.{All-slice_get as all-get}
 use Rattle.std.proofs.Common.{◌≡◌, ◌≢◌, ℕ, ◌<◌, ◌≤◌, ◌+◌, ◌-◌, ◌*◌, min, Bool, true, false, cond, List, [], length, map, Option, Some, None, refl, sym, ap, ◌∙◌, inl, inr, arith}
 use Rattle.std.specs.Prelude.{slice_index_or, slice_get, option_map, option_and_then, unwrap_or, IsTrue, All, nat_lt}
 use Rattle.std.specs.Option.{option_map_or}
@@ -7,27 +7,27 @@ use Rattle.std.specs.FinSet as set
 use Rattle.std.specs.Ordering.{nat_cmp}
 use Rattle.std.proofs.lemmas.Bool.{ltb-true}
 use Rattle.std.proofs.lemmas.Option.{slice_get-map}
-use Rattle.vm_world.specs.vm_types.Pages.{bytes_before, pages_in}
-use Rattle.vm_world.specs.vm_types.declared.call.Entry.{Entry}
+use Rattle.flat_model.specs.vm_types.Pages.{bytes_before, pages_in}
+use Rattle.flat_model.specs.vm_types.declared.call.Entry.{Entry}
 use Rattle.page_store.specs.page_hash.declared.PageName.{PageName}
 use Rattle.page_store.specs.Bytes.{clip}
 use Rattle.page_store.specs.Layout.{KeepsPage, FileBlocks, page_place}
 use Rattle.page_store.specs.Notes.{Notes}
 use Rattle.page_store.specs.declared.place.Place.{Place}
 use Rattle.vm_world.specs.anon_slots.Slots.{count_at, is_used}
-use Rattle.vm_world.specs.vnode_files.Grow.{page_count}
-use Rattle.vm_world.specs.vnode_files.declared.vnode.FileInfo.{FileInfo}
-use Rattle.vm_world.specs.vnode_files.Files.{vnode_at}
-use Rattle.vm_world.specs.vnode_files.Layout.{disk_of_file, block_of_page}
-use Rattle.vm_world.specs.vnode_files.Vnode.{VnodeSeen, page_blocks}
-use Rattle.vm_world.specs.flat_model.Flat.{Flat, File, IsFile}
-use Rattle.vm_world.specs.flat_model.History.{replay}
-use Rattle.vm_world.specs.flat_model.LineLaws.{page_front}
-use Rattle.vm_world.specs.flat_model.Parts.{without_tail}
-use Rattle.vm_world.specs.flat_model.Step.{is_bit_set}
-use Rattle.vm_world.specs.flat_model.Words.{Page}
-use Rattle.vm_world.proofs.flat_model.ClearedTails.{cleared_tails_law}
-use Rattle.vm_world.proofs.flat_model.Lines.{lines_in_pages_law}
+use Rattle.flat_model.specs.vnode_files.Grow.{page_count}
+use Rattle.flat_model.specs.vnode_files.declared.vnode.FileInfo.{FileInfo}
+use Rattle.flat_model.specs.vnode_files.Files.{vnode_at}
+use Rattle.flat_model.specs.vnode_files.Layout.{disk_of_file, block_of_page}
+use Rattle.flat_model.specs.vnode_files.Vnode.{VnodeSeen, page_blocks}
+use Rattle.flat_model.specs.Flat.{Flat, File, IsFile}
+use Rattle.flat_model.specs.History.{replay}
+use Rattle.flat_model.specs.LineLaws.{page_front}
+use Rattle.flat_model.specs.Parts.{without_tail}
+use Rattle.flat_model.specs.Step.{is_bit_set}
+use Rattle.flat_model.specs.Words.{Page}
+use Rattle.flat_model.proofs.ClearedTails.{cleared_tails_law}
+use Rattle.flat_model.proofs.Lines.{lines_in_pages_law}
 use Rattle.vm_world.specs.World.{world_table, file_blocks, is_page_name, is_unpushed, page_exists}
 use Rattle.vm_world.specs.FlatMemory.{Memory, flat_memory, file_with_pages, pages_from}
 use Rattle.vm_world.specs.FramesFit.{FilesFit}

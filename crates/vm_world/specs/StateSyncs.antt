@@ -1,17 +1,18 @@
 -- A Sync that answers, and the marks that it raises. Public clauses cite this.
 use Rattle.std.specs.Prelude.{◌≡◌, ◌≤◌, ℕ, List, [], ◌∷◌, length, Some, slice_get}
-use Rattle.vm_world.specs.vm_types.declared.call.Call.{Call}
-use Rattle.vm_world.specs.vm_types.declared.call.Entry.{Entry}
-use Rattle.vm_world.specs.vm_types.declared.call.Reply.TheVariants.{Synced}
-use Rattle.vm_world.specs.flat_model.Flat.{Flat}
+use Rattle.flat_model.specs.vm_types.declared.call.Call.{Call}
+use Rattle.flat_model.specs.vm_types.declared.call.Entry.{Entry}
+use Rattle.flat_model.specs.vm_types.declared.call.Reply.TheVariants.{Synced}
+use Rattle.flat_model.specs.Flat.{Flat}
 use Rattle.page_store.specs.page_hash.declared.PageName.{PageName}
 use Rattle.mark_laws.specs.disk_marks.Marks.{MarksSeen}
 use Rattle.vm_world.specs.FlatMemory.{Memory}
 use Rattle.vm_world.specs.State.{KernelState, Seats}
 use Rattle.vm_world.specs.Wants.{WantsClean}
 use Rattle.vm_world.specs.World.{World}
-use Rattle.state_marks.specs.StateEntries.{MakesEntry}
-use Rattle.state_marks.specs.StateMarks.{PagesFit, MarksOf, FailuresOf, MayRise, marks_risen}
+use Rattle.vm_world.specs.StateEntries.{MakesEntry}
+use Rattle.vm_world.specs.MarksOf.{MarksOf, FailuresOf}
+use Rattle.vm_world.specs.StateMarks.{PagesFit, MayRise, marks_risen}
 
 -- The marks with those of these pages raised, one after another.
 abbrev pub marks_all_risen : World → MarksSeen → List PageName → ℕ → MarksSeen
@@ -21,6 +22,10 @@ marks_all_risen w m (name ∷ names) j = marks_all_risen w (marks_risen w m name
 -- Each of these pages may be raised.
 abbrev pub MayAllRise : World → List PageName → Type 0
 MayAllRise w names = (i : ℕ) (name : PageName) → slice_get names i ≡ Some name → MayRise w name
+
+-- Each of these is a page that the call wants clean.
+abbrev pub AreWanted : Memory → ℕ → Call → List PageName → Type 0
+AreWanted m p call names = (i : ℕ) (name : PageName) → slice_get names i ≡ Some name → WantsClean m p call name
 
 -- Each page that the call wants clean is one of these.
 abbrev pub AreWantedClean : Memory → ℕ → Call → List PageName → Type 0

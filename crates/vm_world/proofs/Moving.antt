@@ -5,8 +5,8 @@ use Rattle.std.proofs.lemmas.Bool.{cases_Bool, cases_eq}
 use Rattle.std.proofs.lemmas.Bool.Decides.{eqb_tells}
 use Rattle.std.proofs.lemmas.List.{get_or-set_other}
 use Rattle.std.proofs.lemmas.Option.{slice_get_within}
-use Rattle.vm_world.specs.flat_model.Flat.{Flat}
-use Rattle.vm_world.specs.flat_model.History.{replay}
+use Rattle.flat_model.specs.Flat.{Flat}
+use Rattle.flat_model.specs.History.{replay}
 use Rattle.page_store.specs.block_device.DiskSeen.{with_block}
 use Rattle.page_store.specs.page_hash.declared.PageName.{PageName}
 use Rattle.page_store.proofs.page_hash.NameLaws.{find-some}
@@ -31,15 +31,16 @@ use Rattle.vm_world.specs.HistoryFits.{HistoryFits}
 use Rattle.vm_world.specs.Pages.{page_value}
 use Rattle.vm_world.specs.State.{KernelState, Seats, Sent, notes_of, with_sent}
 use Rattle.vm_world.specs.StateSteps.{after_step, ComesBack}
-use Rattle.vm_world.specs.vnode_files.Files.{vnode_at}
+use Rattle.flat_model.specs.vnode_files.Files.{vnode_at}
 use Rattle.vm_world.specs.World.{World, world_table, page_exists, is_unpushed, file_blocks, AllTell}
 use Rattle.vm_world.specs.WorldSteps.{WorldStep, leaves, returns}
 use Rattle.vm_world.proofs.FlatWhole.{some-inj}
 use Rattle.vm_world.proofs.PageNames.{not-slot}
-use Rattle.state_marks.specs.StateMarks.{PagesFit, MarksOf, SendsFrame, StateMarksLaw, marks_ended}
+use Rattle.vm_world.specs.MarksOf.{MarksOf, SendsFrame, marks_ended}
+use Rattle.vm_world.specs.StateMarks.{PagesFit, StateMarksLaw}
 use Rattle.mark_laws.proofs.Along.{before-some}
-use Rattle.state_marks.proofs.Places.{real, below, ends-there, place-there, valid-there, shows-there, places-apart, place-low}
-use Rattle.state_marks.proofs.Contents.{content-leaves, content-noted, content-apart}
+use Rattle.vm_world.proofs.Places.{real, below, ends-there, place-there, valid-there, shows-there, places-apart, place-low}
+use Rattle.vm_world.proofs.Contents.{content-leaves, content-noted, content-apart}
 
 -- the notes of the seats as one has a transfer outside, and as it has none any more
 pub notes-leave : (seats : Seats) (seat : ℕ) (sent : Sent) → notes_of (with_sent seats seat (Some sent)) ≡ with_note (notes_of seats) seat (Some sent.note)

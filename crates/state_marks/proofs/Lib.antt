@@ -1,9 +1,0 @@
-pub mod Places
-pub mod Contents
-pub mod Moving
-pub mod OpeningRows
-pub mod Raised
-pub mod Failed
-pub mod FilesNow
-pub mod Answered
-pub mod Synced

@@ -1,4 +1,0 @@
-pub mod StateMarks
-pub mod OpeningMarks
-pub mod StateEntries
-pub mod StateSyncs
