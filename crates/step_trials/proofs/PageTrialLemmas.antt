@@ -5,7 +5,6 @@ use Rattle.std.specs.Prelude.{All, Result, Ok, Err, IsSome, is_some, slice_get, 
 use Rattle.std.specs.Ordering.{nat_cmp}
 use Rattle.std.specs.Cmp.{nat_cmp_total}
 use Rattle.std.specs.FinMap as finite
-use Rattle.std.specs.FinSet as set
 use Rattle.std.proofs.Math.Path.{fun_ext}
 use Rattle.std.proofs.lemmas.Bool.{cases_eq}
 use Rattle.std.proofs.lemmas.List.Elements.{All-nil, All-cons}
@@ -37,18 +36,16 @@ use Rattle.vnode_files.specs.Layout.{LieOnDisk, NoneMeet}
 use Rattle.vnode_files.specs.Vnode.{VnodeSeen, IsSoundVnode, fresh_vnode, page_blocks, with_blank}
 use Rattle.seg_ops.specs.vm_world.declared.segment.Segment.{Segment}
 use Rattle.seg_ops.specs.vm_world.CountsFit.{SegmentsFit, SegmentFits, ShowsZero, times_had, reserved_pages, slots_for_part}
-use Rattle.seg_ops.specs.vm_world.FlatMemory.{flat_memory, zero_maps}
+use Rattle.seg_ops.specs.vm_world.FlatMemory.{Memory, zero_maps}
 use Rattle.seg_ops.specs.vm_world.FramesFit.{FilesFit, DisksFit}
 use Rattle.seg_ops.specs.vm_world.MemoryFits.{MemoryFits}
 use Rattle.seg_ops.specs.vm_world.NotesFit.{NotesFit}
-use Rattle.seg_ops.specs.vm_world.Opening.{IsIdleStore, no_seats}
+use Rattle.seg_ops.specs.vm_world.Opening.{IsIdleStore, IsOpeningMemory}
 use Rattle.seg_ops.specs.vm_world.Segments.{Spaces, segments_of, spot_at, zero_map}
-use Rattle.seg_ops.specs.vm_world.Marks.{no_marks}
-use Rattle.seg_ops.specs.vm_world.State.{KernelState, is_top}
-use Rattle.seg_ops.specs.vm_world.StateFits.{StateFits}
+use Rattle.seg_ops.specs.vm_world.State.{is_top}
 use Rattle.seg_ops.specs.vm_world.World.{World, file_blocks, file_name}
 use Rattle.seg_ops.specs.vm_world.WorldSteps.{WorldStep, leaves, returns, stays}
-use Rattle.seg_ops.proofs.vm_world.Openings.{opening_law}
+use Rattle.seg_ops.proofs.vm_world.Openings.{opening-memory, opening-notes}
 use Rattle.seg_ops.proofs.vm_world.Spaces.{map-empty, entries-empty}
 use Rattle.seg_ops.specs.Flights.{BeginsFor}
 use Rattle.seg_ops.specs.Steps.{MayShow, WritesWord}
@@ -277,45 +274,40 @@ no-top (suc p) = refl
 pub trial-fits : (w : World) → IsFresh w → IsTrial w
 trial-fits w f = record {
   memory = record {
-    frames = o.memory.frames;
-    files = o.memory.files;
-    disks = o.memory.disks;
-    pool = o.memory.pool;
+    frames = kept.frames;
+    files = kept.files;
+    disks = kept.disks;
+    pool = kept.pool;
     translations = λ i t is. absurd (let z : None ≡ Some t = sym (f.hat i) ∙ is in cc);
-    unpushed = o.memory.unpushed;
-    counts = o.memory.counts;
+    unpushed = kept.unpushed;
+    counts = kept.counts;
     segments = subst (λ (n : ℕ). SegmentsFit n w.anon w.maps trial_spaces) (sym f.one)
         (subst (λ (a : AnonSlotsSeen). SegmentsFit 1 a w.maps trial_spaces) (sym f.anon) (subst (λ (m : List (Option Map)). SegmentsFit 1 (unused_slots 0) m trial_spaces) (sym f.maps) trial-segments-fit));
   };
-  notes = o.notes;
+  notes = opening-notes m [] o;
 }
   where
-    s : KernelState
-    s = record { memory = record { world = w; spaces = finite.empty }; born = set.empty; history = []; pending = 0; calls = []; syncs = []; plan = None; parents = []; entries = []; marks = no_marks }
+    m : Memory
+    m = record { world = w; spaces = finite.empty }
 
     none : length w.anon.counts ≡ 0
     none = ap (λ (a : AnonSlotsSeen). length a.counts) f.anon
 
-    o : StateFits (flat_memory s.memory s.born no_notes) s no_seats
-    o = opening_law.fits s (record {
-      memory = record {
-        store = f.store;
-        anon = f.anon ∙ ap unused_slots (sym none);
-        slots = f.slots;
-        maps = f.maps;
-        leads = f.leads;
-        hat = f.hat;
-        files = f.files;
-        disks = subst (λ (n : ℕ). DisksFit w.store.bays w.files.disks n) (sym none) f.disks;
-        spaces = λ p. finite.get-empty nat_cmp p ∙ sym (ap (λ (b : Bool). if b then Some [] else None) (no-top p));
-      };
-      born = λ p. set.contains-empty nat_cmp p ∙ sym (no-top p);
-      history = refl;
-      pending = refl;
-      calls = λ k. refl;
-      syncs = λ seat. refl;
-      plan = refl;
-    })
+    o : IsOpeningMemory m []
+    o = record {
+      store = f.store;
+      anon = f.anon ∙ ap unused_slots (sym none);
+      slots = f.slots;
+      maps = f.maps;
+      leads = f.leads;
+      hat = f.hat;
+      files = f.files;
+      disks = subst (λ (n : ℕ). DisksFit w.store.bays w.files.disks n) (sym none) f.disks;
+      spaces = λ p. finite.get-empty nat_cmp p ∙ sym (ap (λ (b : Bool). if b then Some [] else None) (no-top p));
+    }
+
+    kept : MemoryFits m
+    kept = opening-memory m [] o
 
 -- the files as they are made
 abbrev pub trial_vnode : FileInfo → VnodeSeen
