@@ -126,6 +126,9 @@ module _ (F : Flat) (s t : KernelState) (l : LeftSeen) (since : IsSince s t no_s
         rooms = before.rooms;
         births = before.births;
         plans = before.plans;
+        marks = λ tell. absurd (let z : true ≡ false = sym (tell name is) ∙ silent in cc);
+        failures = before.failures;
+        pushes = before.pushes;
       }
 
       slots-then : tells s.memory.world.store no_notes (world_table s.memory.world name).disk ≡ false → (n : ℕ) → length t.memory.world.anon.counts ≡ n

@@ -29,6 +29,7 @@ use Rattle.volume_files.specs.volume_format.Table.{no_entry}
 use Rattle.vm_core.specs.vm_world.FlatMemory.{flat_memory, file_with_pages, files_with_pages, shape_of}
 use Rattle.vm_core.specs.vm_world.Events.{FollowsHistory}
 use Rattle.vm_core.specs.vm_world.HistoryFits.{HistoryFits}
+use Rattle.vm_core.specs.vm_world.MarksOf.{MarksOf}
 use Rattle.vm_core.specs.vm_world.Opening.{IsOpening, no_seats}
 use Rattle.vm_core.specs.vm_world.Pages.{page_value, file_contents, contents_of}
 use Rattle.vm_core.specs.vm_world.declared.segment.Segment.{Segment}
@@ -231,4 +232,7 @@ module _ (files : List OpenedFile) (disks : List (ℕ × DiskSeen)) (swap : Opti
     rooms = fits.rooms;
     births = fits.births;
     plans = fits.plans;
+    marks = λ tell. subst (λ (F : Flat). MarksOf F s no_seats s.marks) (opening-is plan sizes parents slots sized tell) fits.marks tell;
+    failures = fits.failures;
+    pushes = fits.pushes;
   }

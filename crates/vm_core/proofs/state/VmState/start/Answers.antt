@@ -5,7 +5,7 @@ use Rattle.std.specs.Prelude.{option_map, slice_index_or}
 use Rattle.std.specs.FinSet as set
 use Rattle.fault_entry.specs.anon_slots.Slots.{AnonSlotsSeen}
 use Rattle.fault_entry.specs.page_store.Bays.{pairs_seen, AreNumbers}
-use Rattle.fault_entry.proofs.vm_world.Openings.{opening_law}
+use Rattle.fault_entry.proofs.vm_world.OpeningFits.{opening_law}
 use Rattle.vm_core.specs.Setup.{HaveCounted}
 use Rattle.vm_core.specs.State.{born_of}
 use Rattle.vm_core.proofs.Starts.{opens, files-fit, disks-fit, have-places, kept-start, same-total, at-replicate}
