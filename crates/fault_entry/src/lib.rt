@@ -9,6 +9,6 @@ pub use answers::Answer;
 pub use entry::answer;
 pub use seg_vn::{
     AnonMaps, AnonSlots, Attempt, Call, Disk, DiskFault, Entry, Files, Flight, Hat, Hold, PageName,
-    Pick, Plan, Ranges, Reply, Residence, Spaces, Store, Wants, World, ZeroObjects, ask,
-    begin_push, begin_read, end_flight, evict, pages_in, part_file, sync, write_block,
+    Pick, Plan, Ranges, Reply, Residence, Spaces, Store, VnSeg, Wants, World, ZeroObjects, ask,
+    begin_push, begin_read, end_flight, evict, page_of, pages_in, part_file, sync, write_block,
 };

@@ -11,5 +11,5 @@ pub mod CutPlaces
 pub mod GapMaps
 pub mod RangeProtections
 pub mod Replaced
-mod CleanRanges
+pub mod CleanRanges
 mod SyncAnswers

@@ -9,8 +9,8 @@ use crate::segment::VnSeg;
 use seg_ops::{Disk, Object, Wants, World, clean_pages, pages_in};
 
 impl VnSeg {
-    // The file whose pages it shows, if it is shared and shows one.
-    fn shared_file(&self) -> Option<u32>
+    /// The file whose pages it shows, if it is shared and shows one.
+    pub fn shared_file(&self) -> Option<u32>
         ensures { result ≡ shared_file self.now }
     {
         if self.segment.own.is_some() {
@@ -22,8 +22,8 @@ impl VnSeg {
         }
     }
 
-    // The page of its object that its first page shows.
-    fn index(&self) -> u32
+    /// The page of its object that its first page shows.
+    pub fn index(&self) -> u32
         ensures index { result ≡ self.now.index }
         ensures end { result + self.now.pages < 2 ^ 32 }
     {
