@@ -199,6 +199,23 @@ def two_loads():
     p.save()
 
 
+def marks():
+    p = Picture('marks.svg', 'What a block has, from push to push', 900, 350)
+    for y, words in [(30, 'the page'), (105, 'its push'), (180, 'its block'), (255, 'its mark')]:
+        p.text(92, y + 28, words, '', 'end')
+    for x, w, *lines in [(110, 210, 'stored into', 'after 1 entry'), (330, 550, 'stored into again', 'after 2 entries')]:
+        p.box(x, 30, w, 46, *lines)
+    for x, w, *lines in [(220, 200, 'sends what was stored', 'began after 1 entry'), (520, 160, 'sends it again', 'began after 2')]:
+        p.box(x, 105, w, 46, *lines)
+    for x, w, kind, *lines in [(110, 100, 'box', 'as opened'), (220, 200, 'soft', 'being written', 'nothing is said'), (430, 80, 'box', 'as it was', 'after 1'),
+                               (520, 160, 'soft', 'being written', 'nothing is said'), (690, 190, 'box', 'as it was', 'after 2, and so now')]:
+        p.box(x, 180, w, 46, *lines, kind=kind)
+    for x, w, words in [(110, 310, 'Held(0)'), (430, 250, 'Held(1)'), (690, 80, 'Held(2)'), (780, 100, 'Held(7)')]:
+        p.box(x, 255, w, 46, words)
+    p.text(450, 326, 'from left to right in time; other calls made five entries more, then a Sync of the page is done: it raises the mark to the entries before its own', 'small')
+    p.save()
+
+
 SAYS = {
     'sunvm': 'the program', 'vm_script': 'plans', 'vm_report': 'texts', 'trace_text': 'traces read', 'volume_format': 'block 0', 'kernel_lock': 'one holder', 'vm_core': 'events', 'vm_kernel': "threads' calls",
     'fault_entry': 'loads, stores', 'mmap_calls': 'mappings', 'proc_calls': 'fork, exit', 'file_calls': 'files', 'seg_vn': 'segments', 'home_pages': 'pages come home', 'seg_ops': 'small steps',
@@ -328,5 +345,5 @@ def layers():
 
 
 if __name__ == '__main__':
-    for draw in (layers, page_life, fault, fork, cell, turn, two_loads):
+    for draw in (layers, page_life, fault, fork, cell, turn, two_loads, marks):
         draw()
