@@ -83,22 +83,26 @@ pub fn is_file_name(field: &[u8]) -> bool
     !field.is_empty() && field.len() <= 16 && are_name_bytes(field) && field != b"zero".as_slice()
 }
 
+// Looks at all bytes, so that a processor looks at many at once.
 fn are_hexadecimal(field: &[u8]) -> bool
     ensures { result ≡ list_all is_hex_digit field.now }
 {
-    field.iter().all(|b| is_hex_digit(*b))
+    let mut right = true;
+    for b in field {
+        right = right & is_hex_digit(*b);
+    }
+    right
 }
 
-// The bytes of pairs of hexadecimal digits.
+// The bytes of pairs of hexadecimal digits, many at once.
 fn bytes_of_pairs(alloc: Global, digits: &[u8]) -> Result<Vec<u8>, AllocError>
     requires { IsTrue (list_all is_hex_digit digits.now) }
     ensures { IfOk result (λ bytes. bytes.items ≡ hex_bytes digits.now) }
 {
-    let mut bytes = Vec::with_capacity(alloc, digits.len() / 2)?;
-    let mut left = digits;
-    while let [high, low, rest @ ..] = left {
-        bytes.push(16 * digit_value(*high) + digit_value(*low))?;
-        left = rest;
+    let count = digits.len() / 2;
+    let mut bytes = vec![in alloc; 0; count]?;
+    for i in 0..count {
+        bytes[i] = 16 * digit_value(digits[2 * i]) + digit_value(digits[2 * i + 1]);
     }
     Ok(bytes)
 }
