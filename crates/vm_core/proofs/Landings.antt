@@ -1,9 +1,11 @@
 -- A flight comes back to the state.
 use Rattle.fault_entry.proofs.vm_world.FileLocks.{past-set, past-index, split}
-use Rattle.std.proofs.Common.{◌≡◌, ◌≢◌, ℕ, zero, suc, ◌-◌, ◌<◌, ◌≤◌, ◌==◌, ◌||◌, Bool, true, false, cond, List, [], ◌∷◌, length, Option, Some, None, refl, sym, ap, ◌∙◌, inl, inr, subst, arith, get_or-set_same, get_or-set_other}
+use Rattle.std.proofs.Common.{◌≡◌, ◌≢◌, ℕ, zero, suc, ◌-◌, ◌<◌, ◌≤◌, ◌==◌, ◌&&◌, ◌||◌, Bool, true, false, cond, not, List, [], ◌∷◌, length, Option, Some, None, refl, sym, ap, ◌∙◌, inl, inr, subst, arith, get_or-set_same, get_or-set_other}
 use Rattle.std.specs.Prelude.{◌↔◌, filter, slice_index_or, slice_set, option_map, MatchBool}
+use Rattle.std.specs.Option.{option_map_or}
 use Rattle.std.proofs.lemmas.Bool.{cases_eq}
 use Rattle.std.proofs.lemmas.Bool.Decides.{eqb_tells}
+use Rattle.disk_marks.specs.Changes.{marks_written, marks_spoiled}
 use Rattle.fault_entry.specs.flat_model.Counted.{top_count}
 use Rattle.fault_entry.specs.flat_model.Flat.{Flat}
 use Rattle.fault_entry.specs.flat_model.OpenLaws.{IsOpenPart, MayFollow}
@@ -14,7 +16,7 @@ use Rattle.fault_entry.specs.page_hash.declared.PageName.{PageName}
 use Rattle.fault_entry.specs.page_lock.Rows.{row_at}
 use Rattle.fault_entry.specs.page_store.Away.{is_disk, disk_count}
 use Rattle.fault_entry.specs.page_store.Bays.{BaySeen, missing, home, out, bay_at}
-use Rattle.fault_entry.specs.page_store.Flight.{FlightSeen, failed, IsPerformed}
+use Rattle.fault_entry.specs.page_store.Flight.{FlightSeen, Progress, fresh, done, failed, IsPerformed}
 use Rattle.fault_entry.specs.page_store.Notes.{Note, Notes}
 use Rattle.fault_entry.specs.page_store.Out.{IsFlightOf}
 use Rattle.fault_entry.specs.page_store.Seen.{StoreSeen, own_frame}
@@ -30,12 +32,14 @@ use Rattle.fault_entry.specs.vm_world.EntryLaws.{LocksAfter, StartsAfter}
 use Rattle.fault_entry.specs.vm_world.Events.{IsEvent}
 use Rattle.fault_entry.specs.vm_world.Failures.{io_entry, with_entry_made}
 use Rattle.fault_entry.specs.vm_world.HistoryFits.{CallsFit}
+use Rattle.fault_entry.specs.vm_world.Marks.{MarksSeen}
+use Rattle.fault_entry.specs.vm_world.MarksOf.{marks_ended}
 use Rattle.fault_entry.specs.vm_world.MemoryFits.{MemoryFits}
 use Rattle.fault_entry.specs.vm_world.NotesFit.{NotesFit}
 use Rattle.fault_entry.specs.vm_world.Segments.{Spaces}
 use Rattle.fault_entry.specs.vm_world.State.{KernelState, Seats, Sent, Caller, notes_of, seat_of, room_of}
 use Rattle.fault_entry.specs.vm_world.StateFits.{StateFits, CallerFits}
-use Rattle.fault_entry.specs.vm_world.StateSteps.{after_step, PendsTails, ComesBack}
+use Rattle.fault_entry.specs.vm_world.StateSteps.{after_step, after_return, PendsTails, ComesBack}
 use Rattle.fault_entry.specs.vm_world.World.{World}
 use Rattle.fault_entry.specs.vm_world.WorldSteps.{WorldStep, returns}
 use Rattle.fault_entry.specs.vm_world.ZeroObjects.{KnowsZeros}
@@ -43,6 +47,8 @@ use Rattle.fault_entry.proofs.vm_world.Failures.{failure_rule}
 use Rattle.fault_entry.proofs.vm_world.StateSteps.{state_rule}
 use Rattle.vm_core.specs.Flights.{IsBack, AddsEntry}
 use Rattle.file_calls.specs.Locks.{calls_without, without_seat}
+use Rattle.mark_laws.specs.MarkLaws.{marks_by}
+use Rattle.vm_core.specs.Marks.{marks_after_push, marks_landed}
 use Rattle.vm_core.specs.State.{with_next_entry, IsSoundKernel}
 use Rattle.vm_core.proofs.OwnFiles.{own-part}
 
@@ -171,9 +177,23 @@ flight-out opening s seats seat sent f fit is p =
       };
     }
 
+-- The world's step as the flight comes back that a note is performed by.
+abbrev pub ComesHome : KernelState → World → FlightSeen → Type 0
+ComesHome s new f =
+    (notes : Notes) (note : Note) → MemoryFits s.memory → NotesFit s.memory.world notes → notes f.seat ≡ Some note → IsPerformed note f → WorldStep s.memory.world new s.memory.spaces (returns f.seat note) (λ name. false)
+
+-- THE STATE WHOSE MARKS are as the push left them: what is said of it as the flight lands, is said of the state before.
+abbrev pub marked : KernelState → ℕ → FlightSeen → KernelState
+marked s seat f = record s { marks = marks_landed s.marks seat f (length s.history) }
+
+pub marked-lands : (s u v : KernelState) (seat : ℕ) (f : FlightSeen) → u ≡ marked s seat f → v ≡ after_step u v.memory.world u.pending → v ≡ after_step (marked s seat f) v.memory.world s.pending
+marked-lands s u v seat f is lands = lands ∙ ap (λ (x : KernelState). after_step x v.memory.world x.pending) is
+
+pub marked-steps : (s u : KernelState) (new : World) (seat : ℕ) (f : FlightSeen) → u ≡ marked s seat f → ComesHome u new f → ComesHome s new f
+marked-steps s u new seat f is step = subst (λ (x : KernelState). ComesHome x new f) is step
+
 -- EVENTS. What comes back is the flight of the seat's note.
-module _ (s : KernelState) (new : World) (seat : ℕ) (f : FlightSeen)
-    (step : (notes : Notes) (note : Note) → MemoryFits s.memory → NotesFit s.memory.world notes → notes f.seat ≡ Some note → IsPerformed note f → WorldStep s.memory.world new s.memory.spaces (returns f.seat note) (λ name. false))
+module _ (s : KernelState) (new : World) (seat : ℕ) (f : FlightSeen) (step : ComesHome s new f)
     (disk : bay_at new.store.bays f.number ≡ home f.disk) (top : f.disk.faults ≤ top_count) where
   mine : (opening : Flat) (seats : Seats) (sent : Sent) → StateFits opening s seats → seats seat ≡ Some sent → IsPerformed sent.note f → f.seat ≡ seat
   mine opening seats sent fit is p = p.seat ∙ (fit.notes.stored.each_note seat sent.note (note-here seats seat sent is)).mine
@@ -194,12 +214,37 @@ module _ (s : KernelState) (new : World) (seat : ℕ) (f : FlightSeen)
   comes : (sent : Sent) → IsPerformed sent.note f → ComesBack sent.note f new
   comes sent p = record { performed = p; disk = ap (bay_at new.store.bays) (sym p.number) ∙ disk; most = top }
 
+  -- the marks as they are left are as the note says
+  ended-landed : (sent : Sent) → IsPerformed sent.note f → marks_ended s.marks seat sent.note (length s.history) f ≡ marks_landed s.marks seat f (length s.history)
+  ended-landed sent p =
+      ap (λ (x : Bool × ℕ). cond (x.0 && not (x.1 == 64)) (marks_by s.marks seat sent.note (length s.history) f f.outcome) s.marks) (λ i. (sym p.direction i, (sym p.name i).object))
+      ∙ by_test (f.writes && not (f.name.object == 64))
+    where
+      by_outcome : (o : Progress) → marks_by s.marks seat sent.note (length s.history) f o ≡ marks_after_push s.marks seat f f.block (length s.history) o
+      by_outcome fresh = refl
+      by_outcome done = ap (λ (x : ℕ × ℕ). marks_written s.marks seat x.0 x.1) (λ i. (sym p.number i, sym p.block i))
+      by_outcome failed = ap (λ (x : ℕ × ℕ). marks_spoiled s.marks seat x.0 x.1 (length s.history) f.before f.disk.faults) (λ i. (sym p.number i, sym p.block i))
+
+      by_test : (b : Bool) → cond b (marks_by s.marks seat sent.note (length s.history) f f.outcome) s.marks
+          ≡ option_map_or (λ (page : PageName × ℕ). marks_after_push s.marks seat f page.1 (length s.history) f.outcome) (cond b (Some (f.name, f.block)) None) s.marks
+      by_test true = by_outcome f.outcome
+      by_test false = refl
+
+  -- the state as the flight leaves it
+  abbrev pub landed : KernelState
+  landed = record (after_step s new s.pending) { marks = marks_landed s.marks seat f (length s.history) }
+
+  returned : (sent : Sent) → IsPerformed sent.note f → after_return s new s.pending seat sent.note f ≡ landed
+  returned sent p = ap (λ (m : MarksSeen). record (after_step s new s.pending) { marks = m }) (ended-landed sent p)
+
   -- without an entry
-  quiet-at : (opening : Flat) (seats : Seats) (sent : Sent) → StateFits opening s seats → seats seat ≡ Some sent → IsPerformed sent.note f → IsEvent seat s (Some sent) (after_step s new s.pending) None
-  quiet-at opening seats sent fit is p = state_rule.ends s new (λ name. false) s.pending seat sent f (world-step opening seats sent fit is p) pends (comes sent p)
+  quiet-at : (opening : Flat) (seats : Seats) (sent : Sent) → StateFits opening s seats → seats seat ≡ Some sent → IsPerformed sent.note f → IsEvent seat s (Some sent) landed None
+  quiet-at opening seats sent fit is p =
+      subst (λ (x : KernelState). IsEvent seat s (Some sent) x None) (returned sent p)
+      (state_rule.ends s new (λ name. false) s.pending seat sent f (world-step opening seats sent fit is p) pends (comes sent p))
 
   pub quiet-end : (opening : Flat) (seats : Seats) (mine : Sent) → StateFits opening s seats → seats seat ≡ Some mine → IsPerformed mine.note f
-      → (sent : Sent) → IsPerformed sent.note f → IsEvent seat s (Some sent) (after_step s new s.pending) None
+      → (sent : Sent) → IsPerformed sent.note f → IsEvent seat s (Some sent) landed None
   quiet-end opening seats own fit is p sent q = record {
     fits = λ o x here fits. (quiet-at o x sent fits here q).fits o x here fits;
     fixed = (quiet-at opening seats own fit is p).fixed;
@@ -211,13 +256,14 @@ module _ (s : KernelState) (new : World) (seat : ℕ) (f : FlightSeen)
   -- with the entry of its error
   failed-at : (opening : Flat) (seats : Seats) (sent : Sent) (q : ℕ) (call : Call) (calls syncs : List (Option ℕ)) → StateFits opening s seats → seats seat ≡ Some sent → IsPerformed sent.note f → sent.of ≡ Some (q, call) → f.outcome ≡ failed
       → LocksAfter (io_entry q call f.number f.before f.disk.faults s.pending) s.calls calls → StartsAfter (io_entry q call f.number f.before f.disk.faults s.pending) s.syncs syncs → length syncs ≡ length s.syncs
-      → IsEvent seat s (Some sent) (with_entry_made (after_step s new s.pending) (io_entry q call f.number f.before f.disk.faults s.pending) calls syncs) None
+      → IsEvent seat s (Some sent) (with_entry_made landed (io_entry q call f.number f.before f.disk.faults s.pending) calls syncs) None
   failed-at opening seats sent q call calls syncs fit is p for_call bad locks starts count =
-      failure_rule.fails s new (λ name. false) s.pending seat q call sent f calls syncs (world-step opening seats sent fit is p) pends for_call (fit.plans.sent seat sent (q, call) is for_call).own (comes sent p) bad locks starts count
+      subst (λ (x : KernelState). IsEvent seat s (Some sent) (with_entry_made x (io_entry q call f.number f.before f.disk.faults s.pending) calls syncs) None) (returned sent p)
+      (failure_rule.fails s new (λ name. false) s.pending seat q call sent f calls syncs (world-step opening seats sent fit is p) pends for_call (fit.plans.sent seat sent (q, call) is for_call).own (comes sent p) bad locks starts count)
 
   pub failed-end : (opening : Flat) (seats : Seats) (own : Sent) (q : ℕ) (call : Call) (calls syncs : List (Option ℕ)) → StateFits opening s seats → seats seat ≡ Some own → IsBack own f (Some (q, call)) → f.outcome ≡ failed
       → LocksAfter (io_entry q call f.number f.before f.disk.faults s.pending) s.calls calls → StartsAfter (io_entry q call f.number f.before f.disk.faults s.pending) s.syncs syncs → length syncs ≡ length s.syncs
-      → (sent : Sent) → IsBack sent f (Some (q, call)) → IsEvent seat s (Some sent) (with_entry_made (after_step s new s.pending) (io_entry q call f.number f.before f.disk.faults s.pending) calls syncs) None
+      → (sent : Sent) → IsBack sent f (Some (q, call)) → IsEvent seat s (Some sent) (with_entry_made landed (io_entry q call f.number f.before f.disk.faults s.pending) calls syncs) None
   failed-end opening seats own q call calls syncs fit is b bad locks starts count sent c = record {
     fits = λ o x here fits. (failed-at o x sent q call calls syncs fits here c.performed c.same bad locks starts count).fits o x here fits;
     fixed = (failed-at opening seats own q call calls syncs fit is b.performed b.same bad locks starts count).fixed;
@@ -233,8 +279,8 @@ pub ended : (s u v w : KernelState) (new : World) (seat p : ℕ) (call : Call) (
 ended s u v w new seat p call reply at_u at_v at_w =
     at_w ∙ ap (λ (x : KernelState). with_next_entry x (record { process = p; call = call; reply = reply; cleared = x.pending })) (at_v ∙ ap (λ (x : KernelState). record x { calls = calls_without seat (part_file call) x.calls }) at_u)
 
-pub added : (s w : KernelState) (new : World) (e : Entry) (calls syncs : List (Option ℕ)) → w ≡ with_entry_made (after_step s new s.pending) e calls syncs → LocksAfter e s.calls calls → StartsAfter e s.syncs syncs → AddsEntry s w e
-added s w new e calls syncs is locks starts = subst (λ (x : KernelState). AddsEntry s x e) (sym is) (record { history = refl; pending = refl; locks = locks; starts = starts })
+pub added : (s w : KernelState) (seat : ℕ) (f : FlightSeen) (new : World) (e : Entry) (calls syncs : List (Option ℕ)) → w ≡ with_entry_made (after_step (marked s seat f) new s.pending) e calls syncs → LocksAfter e s.calls calls → StartsAfter e s.syncs syncs → AddsEntry s w e
+added s w seat f new e calls syncs is locks starts = subst (λ (x : KernelState). AddsEntry s x e) (sym is) (record { history = refl; pending = refl; locks = locks; starts = starts })
 
 -- a process's seat
 pub own-seat : (F : Flat) (H : List Entry) (entries : List ℕ) (seat : ℕ) (of : Caller) → CallerFits F H entries seat of → of.0 ≡ suc seat

@@ -47,6 +47,7 @@ pushed H capacity entries left e q s is lt some = record {
   counted = counted;
   lengths = length-set left q (slice_index left q - 1) ∙ s.lengths;
   room = let more = length-append H (e ∷ []) in let was = s.room in let sums = sum_by-set (λ (n : ℕ). n) left q (slice_index left q - 1) 0 lt in omega (arith, more, was, sums, some);
+  few = let more = length-append H (e ∷ []) in let was = s.few in let sums = sum_by-set (λ (n : ℕ). n) left q (slice_index left q - 1) 0 lt in omega (arith, more, was, sums, some);
 }
   where
     counted : (p : ℕ) → length (entries_of (H ++ e ∷ []) p) + room_of (left_after left q) p ≡ room_of entries p

@@ -8,7 +8,13 @@ pub mod Tops
 pub mod OwnFiles
 pub mod Landings
 pub mod Starts
+pub mod MarkRows
+pub mod MarksKept
 pub mod Departures
+pub mod CutFiles
+pub mod CutRows
+pub mod Rising
+pub mod AnsweredMarks
 pub mod Served
 pub mod Forked
 pub mod Uses

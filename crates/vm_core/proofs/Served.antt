@@ -29,11 +29,11 @@ use Rattle.fault_entry.specs.vm_types.declared.call.Entry.{Entry}
 use Rattle.fault_entry.specs.vm_types.declared.call.Reply.{Reply}
 use Rattle.fault_entry.specs.vm_types.declared.call.Reply.TheVariants as reply
 use Rattle.fault_entry.specs.vm_types.declared.call.Reply.TheVariants.{Synced}
-use Rattle.fault_entry.specs.vm_world.CallSteps.{StaysAlive}
+use Rattle.fault_entry.specs.vm_world.CallSteps.{StaysAlive, MarksAfterReply, with_entry_marked}
 use Rattle.fault_entry.specs.vm_world.EntryLaws.{LocksAfter, StartsAfter, MayUseFile}
 use Rattle.fault_entry.specs.vm_world.Events.{IsEvent, CanTry, MayBear}
-use Rattle.fault_entry.specs.vm_world.Failures.{with_entry_made}
 use Rattle.fault_entry.specs.vm_world.FlatMemory.{Memory}
+use Rattle.fault_entry.specs.vm_world.Marks.{MarksSeen}
 use Rattle.fault_entry.specs.vm_world.Segments.{Spaces}
 use Rattle.fault_entry.specs.vm_world.Serving.{ServesDone, ServesNeed, ServesBusy}
 use Rattle.fault_entry.specs.vm_world.ServingLaws.{done_entry, after_need, after_wait, IsOfAnother}
@@ -53,9 +53,11 @@ use Rattle.fault_entry.specs.seg_vn.Serves.{Serves, IsPlainReply}
 use Rattle.fault_entry.proofs.seg_vn.HomeFrames.{home-beside}
 use Rattle.file_calls.specs.Calls.{IsFileAnswer, IsFileReply}
 use Rattle.file_calls.specs.Locks.{IsAnothers, locks_answered}
+use Rattle.vm_core.specs.Answered.{MarksAfterAnswer, MarksAfterCall, with_marks}
 use Rattle.vm_core.specs.Calls.{IsOnOwnSpace, ConcernsMappings, IsDone, IsNeeded, IsBusy, IsOwnReply, IsShownAfterCall, SlotsAfterCall, IsHitAfterCall, TakesMemory, AnswersCall, with_memory, with_served, after_answer}
 use Rattle.vm_core.specs.Fits.{FitsAt}
 use Rattle.vm_core.specs.State.{IsSoundKernel}
+use Rattle.vm_core.proofs.MarksKept.{answered-marks}
 use Rattle.vm_core.proofs.OwnFiles.{has-place, locks-done, locks-same, may-use, own-holder, part-of}
 use Rattle.fault_entry.specs.seg_vn.declared.attempt.Attempt.{Attempt}
 use Rattle.fault_entry.specs.seg_vn.declared.attempt.Attempt.TheVariants.{Done, Need, Busy}
@@ -171,8 +173,8 @@ FilesLet s calls seat p call (Busy h) = IsOfAnother seat h × (calls ≡ s.calls
 
 -- DONE.
 module _ (opening : Flat) (s : KernelState) (seats : Seats) (fit : StateFits opening s seats) (m : Memory) (calls : List (Option ℕ)) (seat p more : ℕ) (call : Call) (plain : (child : ℕ) → call ≢ Fork child) (try : CanTry s seat p call) (lt : seat < length s.syncs) where
-  abbrev pub made : Reply → KernelState
-  made reply = with_entry_made (record s { memory = m }) (done_entry p call reply more) calls (slice_set s.syncs seat None)
+  abbrev pub made : Reply → MarksSeen → KernelState
+  made reply n = with_entry_marked (record s { memory = m }) (done_entry p call reply more) calls (slice_set s.syncs seat None) n
 
   p-is : p ≡ suc seat
   p-is = seat-is s seat p call try
@@ -186,17 +188,18 @@ module _ (opening : Flat) (s : KernelState) (seats : Seats) (fit : StateFits ope
       subst (λ (k : ℕ). IsStart s.history (length s.history) p k) (sym (own.1 from is ∙ ap (start_of s) try.own))
       (subst (λ (k : ℕ). IsStart s.history (length s.history) k (start_of s seat)) (sym p-is) (start_rule.began opening s seats seat fit))
 
-  pub done-event : (reply : Reply) → IsWellFormed call → ServesDone s.memory m s.pending more p call reply → FilesLet s calls seat p call (Done reply) → StaysAlive m p call → IsOwnReply s p (Done reply) → IsEvent seat s None (made reply) None
-  done-event reply formed serves lets alive own = serving_law.done s m seat p more call reply calls (slice_set s.syncs seat None) try serves alive (record {
+  pub done-event : (reply : Reply) (n : MarksSeen) → IsWellFormed call → ServesDone s.memory m s.pending more p call reply → FilesLet s calls seat p call (Done reply) → StaysAlive m p call → IsOwnReply s p (Done reply)
+      → MarksAfterReply s.memory m p call reply (length s.history) s.marks n → IsEvent seat s None (made reply n) None
+  done-event reply n formed serves lets alive own marks = serving_law.done s m seat p more call reply calls (slice_set s.syncs seat None) n try serves alive (record {
     formed = formed;
     plain = plain;
     own = own.0;
     sync = λ from is. began reply from own is;
     file = lets.0;
-  }) (lets.1 more) (starts reply) (length-set s.syncs seat None)
+  }) (lets.1 more) (starts reply) (length-set s.syncs seat None) marks
 
-  pub done-answer : (reply : Reply) → ServesDone s.memory m s.pending more p call reply → FilesLet s calls seat p call (Done reply) → IsOwnReply s p (Done reply) → IsDone s (made reply) p call reply
-  done-answer reply serves lets own = record {
+  pub done-answer : (reply : Reply) (n : MarksSeen) → ServesDone s.memory m s.pending more p call reply → FilesLet s calls seat p call (Done reply) → IsOwnReply s p (Done reply) → IsDone s (made reply n) p call reply
+  done-answer reply n serves lets own = record {
     mid = serves.mid;
     cleared = more;
     adds = record { history = refl; pending = refl; locks = lets.1 more; starts = starts reply };
@@ -250,23 +253,25 @@ pub record Concludes (s t : KernelState) (seat p : ℕ) (call : Call) (a : Attem
   pub answers : AnswersCall s t seat p call a
   pub event : IsEvent seat s None t None
 
-pub concludes : (opening : Flat) (s : KernelState) (seats : Seats) (m : Memory) (calls : List (Option ℕ)) (seat p more : ℕ) (call : Call) (a : Attempt) → StateFits opening s seats → seats seat ≡ None → ((child : ℕ) → call ≢ Fork child) → CanTry s seat p call → IsWellFormed call
-    → Serves s.memory m s.pending more s.calls p call a → FilesLet s calls seat p call a → StaysAlive m p call → IsOwnReply s p a → seat < length s.syncs → Concludes s (after_answer (with_served s m more calls) seat p call a) seat p call a
-concludes opening s seats m calls seat p more call (Done reply) fit idle plain try formed serves lets alive own lt =
+pub concludes : (opening : Flat) (s : KernelState) (seats : Seats) (m : Memory) (calls : List (Option ℕ)) (n : MarksSeen) (seat p more : ℕ) (call : Call) (a : Attempt) → StateFits opening s seats → seats seat ≡ None → ((child : ℕ) → call ≢ Fork child) → CanTry s seat p call → IsWellFormed call
+    → Serves s.memory m s.pending more s.calls p call a → FilesLet s calls seat p call a → StaysAlive m p call → IsOwnReply s p a → MarksAfterAnswer s.memory m p call a (length s.history) s.marks n → seat < length s.syncs
+    → Concludes s (after_answer (with_marks (with_served s m more calls) n) seat p call a) seat p call a
+concludes opening s seats m calls n seat p more call (Done reply) fit idle plain try formed serves lets alive own marks lt =
     let p_is = seat-is s seat p call try in
     let place : p - 1 ≡ seat = omega (arith, p_is) in
-    let same : after_answer (with_served s m more calls) seat p call (Done reply) ≡ with_entry_made (record s { memory = m }) (done_entry p call reply more) calls (slice_set s.syncs seat None) = ap (λ (k : ℕ). with_entry_made (record s { memory = m }) (done_entry p call reply more) calls (slice_set s.syncs k None)) place in
+    let same : after_answer (with_marks (with_served s m more calls) n) seat p call (Done reply) ≡ with_entry_marked (record s { memory = m }) (done_entry p call reply more) calls (slice_set s.syncs seat None) n =
+    ap (λ (k : ℕ). with_entry_marked (record s { memory = m }) (done_entry p call reply more) calls (slice_set s.syncs k None) n) place in
     subst (λ (t : KernelState). Concludes s t seat p call (Done reply)) (sym same) (record {
-      answers = done-answer opening s seats fit m calls seat p more call plain try lt reply serves lets own;
-      event = done-event opening s seats fit m calls seat p more call plain try lt reply formed serves lets alive own;
+      answers = done-answer opening s seats fit m calls seat p more call plain try lt reply n serves lets own;
+      event = done-event opening s seats fit m calls seat p more call plain try lt reply n formed serves lets alive own marks;
     })
-concludes opening s seats m calls seat p more call (Need plan) fit idle plain try formed serves lets alive own lt =
-    subst (λ (cs : List (Option ℕ)). Concludes s (after_answer (with_served s m more cs) seat p call (Need plan)) seat p call (Need plan)) (sym lets) (record {
+concludes opening s seats m calls n seat p more call (Need plan) fit idle plain try formed serves lets alive own marks lt =
+    subst (λ (x : List (Option ℕ) × MarksSeen). Concludes s (after_answer (with_marks (with_served s m more x.0) x.1) seat p call (Need plan)) seat p call (Need plan)) {x = (s.calls, s.marks)} {y = (calls, n)} (λ i. (sym lets i, sym marks i)) (record {
       answers = need-answer opening s seats fit m s.calls seat p more call plain try lt plan serves;
       event = need-event opening s seats fit m s.calls seat p more call plain try lt plan serves;
     })
-concludes opening s seats m calls seat p more call (Busy h) fit idle plain try formed serves lets alive own lt =
-    subst (λ (cs : List (Option ℕ)). Concludes s (after_answer (with_served s m more cs) seat p call (Busy h)) seat p call (Busy h)) (sym lets.1) (record {
+concludes opening s seats m calls n seat p more call (Busy h) fit idle plain try formed serves lets alive own marks lt =
+    subst (λ (x : List (Option ℕ) × MarksSeen). Concludes s (after_answer (with_marks (with_served s m more x.0) x.1) seat p call (Busy h)) seat p call (Busy h)) {x = (s.calls, s.marks)} {y = (calls, n)} (λ i. (sym lets.1 i, sym marks i)) (record {
       answers = wait-answer opening s seats fit m s.calls seat p more call plain try lt h idle serves lets.0;
       event = wait-event opening s seats fit m s.calls seat p more call plain try lt h serves;
     })
@@ -437,6 +442,33 @@ after-file old new p call a of same = absurd (let z : false ≡ true = of in cc)
 pub synced-rest : (v s : KernelState) (m : Memory) (pending : ℕ) (syncs : List (Option ℕ)) → v ≡ s → syncs ≡ v.syncs → record (with_memory v m pending) { syncs = syncs } ≡ with_memory s m pending
 synced-rest v s m pending syncs is same = ap (λ (l : List (Option ℕ)). record (with_memory v m pending) { syncs = l }) same ∙ ap (λ (x : KernelState). with_memory x m pending) is
 
+-- Where no mark changed, and what a call does to them that is neither a Sync nor a Truncate.
+pub same-marks : (s t : KernelState) → t ≡ with_memory s t.memory t.pending → t ≡ with_marks (with_memory s t.memory t.pending) t.marks
+same-marks s t is = is ∙ ap (with_marks (with_memory s t.memory t.pending)) (sym (ap (λ (x : KernelState). x.marks) is))
+
+pub plain-marks : (old new : Memory) (p : ℕ) (call : Call) (a : Attempt) (entries : ℕ) (m n : MarksSeen) → ((addr len : ℕ) → call ≢ Sync addr len) → ((f len : ℕ) → call ≢ Truncate f len) → n ≡ m → MarksAfterAnswer old new p call a entries m n
+plain-marks old new p call (Need plan) entries m n sync cut same = same
+plain-marks old new p call (Busy h) entries m n sync cut same = same
+plain-marks old new p (Sync addr len) (Done r) entries m n sync cut same = absurd (sync addr len refl)
+plain-marks old new p (Truncate f len) (Done r) entries m n sync cut same = absurd (cut f len refl)
+plain-marks old new p call (Done r) entries m n sync cut same = same
+
+-- a load and a store are neither
+pub access-plain : (call : Call) → ((a : ℕ) × (n : ℕ) × (call ≡ Load a n)) ⊎ ((a : ℕ) × (n : ℕ) × (v : ℕ) × (call ≡ Store a n v)) → ((addr len : ℕ) → call ≢ Sync addr len) × ((f len : ℕ) → call ≢ Truncate f len)
+access-plain call (inl x) = ((λ addr len e. let z : Load x.0 x.1 ≡ Sync addr len = sym x.2 ∙ e in cc), (λ f len e. let z : Load x.0 x.1 ≡ Truncate f len = sym x.2 ∙ e in cc))
+access-plain call (inr x) = ((λ addr len e. let z : Store x.0 x.1 x.2 ≡ Sync addr len = sym x.3 ∙ e in cc), (λ f len e. let z : Store x.0 x.1 x.2 ≡ Truncate f len = sym x.3 ∙ e in cc))
+
+-- What is left of the state once marks rose, or a file was cut.
+pub marked-rest : (s t u : KernelState) → t ≡ with_memory s t.memory t.pending → u ≡ with_marks t u.marks → u ≡ with_marks (with_memory s u.memory u.pending) u.marks
+marked-rest s t u rest is =
+    is ∙ ap (λ (x : KernelState). with_marks x u.marks) rest
+    ∙ (λ i. with_marks (with_memory s (sym (ap (λ (x : KernelState). x.memory) is) i) (sym (ap (λ (x : KernelState). x.pending) is) i)) u.marks)
+
+pub marked-served : (s t u : KernelState) (calls : List (Option ℕ)) → t ≡ with_served s t.memory t.pending calls → u ≡ with_marks t u.marks → u ≡ with_marks (with_served s u.memory u.pending calls) u.marks
+marked-served s t u calls rest is =
+    is ∙ ap (λ (x : KernelState). with_marks x u.marks) rest
+    ∙ (λ i. with_marks (with_served s (sym (ap (λ (x : KernelState). x.memory) is) i) (sym (ap (λ (x : KernelState). x.pending) is) i) calls) u.marks)
+
 -- What is concluded changes no memory.
 pub concluded-memory : (s : KernelState) (seat p : ℕ) (call : Call) (a : Attempt) → (after_answer s seat p call a).memory ≡ s.memory
 concluded-memory s seat p call (Done reply) = refl
@@ -451,6 +483,7 @@ pub record WasServed (s mid : KernelState) (p : ℕ) (call : Call) (a : Attempt)
   pub hit : IsHitAfterCall s.memory mid.memory.world p call a
   pub own : IsOwnReply s p a
   pub alive : StaysAlive mid.memory p call
+  pub marks : MarksAfterCall s mid p call a
 
 -- Where a call is of no file, it waits for none.
 pub none-waits : (calls : List (Option ℕ)) (seat t : ℕ) (call : Call) → file_of_call call ≡ None → IsAnothers calls seat call t → ⊥
@@ -463,31 +496,34 @@ pub record Tries (s t : KernelState) (seat p : ℕ) (call : Call) (a : Attempt) 
   pub slots : SlotsAfterCall s.memory t.memory.world p call a
   pub hit : IsHitAfterCall s.memory t.memory.world p call a
   pub event : IsEvent seat s None t None
+  pub marks : MarksAfterCall s t p call a
 
 -- Where these seats have the files' calls then.
 tries : (seat p : ℕ) (s mid t : KernelState) (calls : List (Option ℕ)) (call : Call) (a : Attempt) (fits : FitsAt s seat None) → ((child : ℕ) → call ≢ Fork child) → CanTry s seat p call → IsWellFormed call → WasServed s mid p call a → FilesLet s calls seat p call a
-    → mid ≡ with_served s mid.memory mid.pending calls → t ≡ after_answer mid seat p call a → seat < length mid.syncs → Tries s t seat p call a
+    → mid ≡ with_marks (with_served s mid.memory mid.pending calls) mid.marks → t ≡ after_answer mid seat p call a → seat < length mid.syncs → Tries s t seat p call a
 tries seat p s mid t calls call a fits plain may formed w lets rest new seated =
     let memory : t.memory ≡ mid.memory = ap (λ (x : KernelState). x.memory) new ∙ concluded-memory mid seat p call a in
+    let marks : t.marks ≡ mid.marks = ap (λ (x : KernelState). x.marks) new ∙ answered-marks mid seat p call a in
     let c = subst (λ (x : KernelState). Concludes s x seat p call a) (sym (new ∙ ap (λ (x : KernelState). after_answer x seat p call a) rest))
-    (concludes fits.0 s fits.1 mid.memory calls seat p mid.pending call a fits.2 fits.3 plain may formed w.serves lets w.alive w.own (subst (λ (x : KernelState). seat < length x.syncs) rest seated)) in
+    (concludes fits.0 s fits.1 mid.memory calls mid.marks seat p mid.pending call a fits.2 fits.3 plain may formed w.serves lets w.alive w.own w.marks (subst (λ (x : KernelState). seat < length x.syncs) rest seated)) in
     record {
       answers = c.answers;
       shown = subst (λ (m : Memory). IsShownAfterCall m p call a) (sym memory) w.shown;
       slots = subst (λ (m : Memory). SlotsAfterCall s.memory m.world p call a) (sym memory) w.slots;
       hit = subst (λ (m : Memory). IsHitAfterCall s.memory m.world p call a) (sym memory) w.hit;
       event = c.event;
+      marks = subst (λ (x : Memory × MarksSeen). MarksAfterAnswer s.memory x.0 p call a (length s.history) s.marks x.1) {x = (mid.memory, mid.marks)} {y = (t.memory, t.marks)} (λ i. (sym memory i, sym marks i)) w.marks;
     }
 
 -- On the process's own space, and on a file.
-pub tries-own : (seat p : ℕ) (s mid t : KernelState) (call : Call) (a : Attempt) → FitsAt s seat None → IsOnOwnSpace call → CanTry s seat p call → IsWellFormed call → WasServed s mid p call a → mid ≡ with_memory s mid.memory mid.pending → t ≡ after_answer mid seat p call a
+pub tries-own : (seat p : ℕ) (s mid t : KernelState) (call : Call) (a : Attempt) → FitsAt s seat None → IsOnOwnSpace call → CanTry s seat p call → IsWellFormed call → WasServed s mid p call a → mid ≡ with_marks (with_memory s mid.memory mid.pending) mid.marks → t ≡ after_answer mid seat p call a
     → seat < length mid.syncs → Tries s t seat p call a
 tries-own seat p s mid t call a fits served may formed w rest new seated =
     let of = served-is call served in
     tries seat p s mid t s.calls call a fits of.plain may formed w (own-lets fits.0 s fits.1 mid.memory seat p mid.pending call a fits.2 of may w.serves) rest new seated
 
 pub tries-file : (seat p : ℕ) (s mid t : KernelState) (call : Call) (a : Attempt) → FitsAt s seat None → IsSome (file_of_call call) → CanTry s seat p call → IsWellFormed call → WasServed s mid p call a → ((t : ℕ) → (a ≡ Busy (hold.File t)) ↔ IsAnothers s.calls seat call t)
-    → length s.calls ≡ 64 → mid ≡ with_served s mid.memory mid.pending (locks_answered seat call a s.calls) → t ≡ after_answer mid seat p call a → seat < length mid.syncs → Tries s t seat p call a
+    → length s.calls ≡ 64 → mid ≡ with_marks (with_served s mid.memory mid.pending (locks_answered seat call a s.calls)) mid.marks → t ≡ after_answer mid seat p call a → seat < length mid.syncs → Tries s t seat p call a
 tries-file seat p s mid t call a fits of may formed w waits places rest new seated =
     tries seat p s mid t (locks_answered seat call a s.calls) call a fits (file-plain call of) may formed w (file-lets fits.0 s fits.1 mid.memory seat p mid.pending call a fits.2 may w.serves waits places) rest new seated
 

@@ -28,6 +28,7 @@ use Rattle.fault_entry.specs.vnode_files.Vnode.{VnodeSeen, no_vnode, page_blocks
 use Rattle.fault_entry.proofs.vnode_files.BlockLemmas.{length-page_blocks}
 use Rattle.fault_entry.proofs.vnode_files.LayoutLaws.{file_layout_law}
 use Rattle.fault_entry.specs.vm_world.FramesFit.{FilesFit, DisksFit}
+use Rattle.fault_entry.specs.vm_world.Marks.{AreOpeningMarks}
 use Rattle.fault_entry.specs.vm_world.Opening.{IsOpening}
 use Rattle.fault_entry.specs.vm_world.Segments.{Spaces}
 use Rattle.fault_entry.specs.vm_world.State.{KernelState, is_top}
@@ -193,7 +194,7 @@ set-there files disks number f some = by_option (finite.get files.disks number) 
     by_option None e h = absurd (let z : false ≡ true = h in cc)
     by_option (Some b) e h = (b, e)
 
-below-eight : (disks : List (ℕ × DiskSeen)) (number blocks : ℕ) → AreNumbers (numbers_of disks) → ListsDisk disks number blocks → number < 8
+pub below-eight : (disks : List (ℕ × DiskSeen)) (number blocks : ℕ) → AreNumbers (numbers_of disks) → ListsDisk disks number blocks → number < 8
 below-eight disks number blocks numbers d =
     let lt = slice_get_within disks d.place (number, d.disk) d.there in
     let same : slice_index (numbers_of disks) d.place ≡ number = number-at disks d.place (number, d.disk) lt ∙ ap (λ (x : ℕ × DiskSeen). x.0) (index-of disks d.place (number, d.disk) (number, d.disk) d.there) in
@@ -280,8 +281,8 @@ pub opens : (s : KernelState) (frames slots seats places : ℕ) (disks : List (�
     → ((number : ℕ) → IsStill (bay_at s.memory.world.store.bays number)) → HaveCounted disks → IfSome swap (λ d. d.faults ≤ top_count) → s.memory.world.anon ≡ unused_slots slots → IsSoundAnonSlots s.memory.world.anon → s.memory.world.maps ≡ []
     → s.memory.world.hat.frames ≡ frames → s.memory.world.hat.places ≡ replicate places None → FilesFit s.memory.world.files → DisksFit s.memory.world.store.bays s.memory.world.files.disks slots
     → ((p : ℕ) → finite.get s.memory.spaces p ≡ top_space s.parents p) → ((p : ℕ) → set.contains s.born p ≡ is_top s.parents p) → s.history ≡ [] → s.pending ≡ 0 → ((f : ℕ) → slice_index_or s.calls f None ≡ None)
-    → s.syncs ≡ replicate seats None → s.plan ≡ None → IsOpening s
-opens s frames slots seats places disks swap new sound still counted swap_counted anon slots_sound maps hat_frames hat files disks_fit spaces born history pending calls syncs plan =
+    → s.syncs ≡ replicate seats None → s.plan ≡ None → AreOpeningMarks s.memory.world.files seats s.marks → IsOpening s
+opens s frames slots seats places disks swap new sound still counted swap_counted anon slots_sound maps hat_frames hat files disks_fit spaces born history pending calls syncs plan marks =
     let count : length s.memory.world.anon.counts ≡ slots = ap (λ (x : AnonSlotsSeen). length x.counts) anon ∙ length-replicate slots 0 in
     record {
       memory = record {
@@ -308,6 +309,7 @@ opens s frames slots seats places disks swap new sound still counted swap_counte
       calls = calls;
       syncs = λ seat. ap (λ (l : List (Option ℕ)). slice_index_or l seat None) syncs ∙ at-replicate seats seat None;
       plan = plan;
+      marks = subst (λ (n : ℕ). AreOpeningMarks s.memory.world.files n s.marks) (sym (ap (λ (l : List (Option ℕ)). length l) syncs ∙ length-replicate seats None)) marks;
     }
 
 -- nothing is mapped, so no zero object is there

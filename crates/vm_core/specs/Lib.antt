@@ -1,6 +1,7 @@
 pub mod Finish
 pub mod Closing
 pub mod Ledger
+pub mod Marks
 pub mod State
 pub mod StateCode
 pub mod Setup
@@ -8,6 +9,8 @@ pub mod Fits
 pub mod Clock
 pub mod Flights
 pub mod Calls
+pub mod Answered
+pub mod Raises
 pub mod Forks
 pub use Rattle.fault_entry.specs.vm_types as vm_types
 pub use Rattle.fault_entry.specs.flat_model as flat_model
@@ -16,3 +19,4 @@ pub use Rattle.fault_entry.specs.page_hash as page_hash
 pub use Rattle.fault_entry.specs.addr_space as addr_space
 pub use Rattle.fault_entry.specs.page_store as page_store
 pub use Rattle.fault_entry.specs.vm_world as vm_world
+pub use Rattle.disk_marks.specs as disk_marks

@@ -8,6 +8,7 @@ use Rattle.fault_entry.specs.page_store.Bays.{numbers_of, pairs_seen}
 use Rattle.fault_entry.specs.page_store.New.{AreHome}
 use Rattle.fault_entry.specs.vnode_files.Files.{FilesSeen, vnode_at}
 use Rattle.fault_entry.specs.vnode_files.Layout.{LieOnDisks, NoFilesMeet, HaveFewExtents}
+use Rattle.fault_entry.specs.vm_world.Marks.{AreOpeningMarks}
 use Rattle.fault_entry.specs.vm_world.State.{KernelState}
 use Rattle.vm_core.specs.declared.setup.Setup.{Setup}
 
@@ -39,7 +40,7 @@ abbrev pub SwapServes : ℕ → Option DiskSeen → Type 0
 SwapServes slots swap = MatchOption swap (slots ≡ 0) (λ disk. (0 < slots) × (slots ≤ disk.size))
 
 -- The state has what the setup names: frames, with the hands of the clock half of them apart, translations, slots, disks, files, seats, and of each process
--- its parent and its entries.
+-- its parent and its entries; and the blocks of the files' disks are marked as at the opening.
 pub record IsMadeOf {D : Type 0} (seen : D → DiskSeen) (s : KernelState) (setup : Setup D) : Type 0 where
   pub frames : length s.memory.world.store.frames ≡ setup.frames
   pub clock : s.memory.world.store.clock ≡ fresh_clock setup.frames (setup.frames / 2)
@@ -51,6 +52,7 @@ pub record IsMadeOf {D : Type 0} (seen : D → DiskSeen) (s : KernelState) (setu
   pub parents : s.parents ≡ setup.parents.items
   pub entries : s.entries ≡ setup.entries.items
   pub seats : length s.syncs ≡ setup.seats
+  pub marks : AreOpeningMarks setup.files setup.seats s.marks
 
 -- The counts of faults of these disks aren't past the end of counts.
 abbrev pub HaveCounted : List (ℕ × DiskSeen) → Type 0

@@ -32,6 +32,11 @@ use Rattle.fault_entry.specs.vm_world.Segments.{Spaces}
 use Rattle.fault_entry.specs.vm_world.State.{KernelState, KeptPlan, Caller}
 use Rattle.fault_entry.specs.vm_world.World.{World}
 use Rattle.fault_entry.specs.seg_vn.Segments.{segment_code}
+use Rattle.disk_marks.specs.Marks.{MarksSeen}
+use Rattle.disk_marks.specs.declared.marks.MarkRow.{MarkRow}
+use Rattle.disk_marks.specs.contracts.marks.MarkRow as mark_row
+use Rattle.disk_marks.specs.declared.marks.Pushing.{Pushing}
+use Rattle.disk_marks.specs.contracts.marks.Pushing as pushing
 
 abbrev pub disk_code : Coded DiskSeen
 disk_code =
@@ -109,7 +114,12 @@ kept_code =
     code_by (ℕ × (Plan × Option Caller)) (coded× coded_ℕ (coded× plan.the_row.coded (coded_option (coded× coded_ℕ call.the_row.coded))))
     (λ k. (k.seat, (k.plan, k.of))) (λ p. record { seat = p.0; plan = p.1.0; of = p.1.1 }) (λ _. refl)
 
--- What happened; what is between two events; and the set-up.
+abbrev pub marks_code : Coded MarksSeen
+marks_code =
+    code_by (List (List MarkRow) × List (Option Pushing)) (coded× (coded_list (coded_list mark_row.the_row.coded)) (coded_list (coded_option pushing.the_row.coded)))
+    (λ m. (m.rows, m.pushes)) (λ p. record { rows = p.0; pushes = p.1 }) (λ _. refl)
+
+-- What happened; what is between two events; the set-up; and what is known of the disks.
 abbrev pub Past : Type 0
 Past = set.FinSet nat_cmp × (List Entry × ℕ)
 
@@ -124,6 +134,6 @@ between_code = coded× (coded_list (coded_option coded_ℕ)) (coded× (coded_lis
 
 abbrev pub state_code : Coded KernelState
 state_code =
-    code_by (Memory × (Past × (Between × (List ℕ × List ℕ)))) (coded× memory_code (coded× past_code (coded× between_code (coded× (coded_list coded_ℕ) (coded_list coded_ℕ)))))
-    (λ s. (s.memory, ((s.born, (s.history, s.pending)), ((s.calls, (s.syncs, s.plan)), (s.parents, s.entries)))))
-    (λ p. record { memory = p.0; born = p.1.0.0; history = p.1.0.1.0; pending = p.1.0.1.1; calls = p.1.1.0.0; syncs = p.1.1.0.1.0; plan = p.1.1.0.1.1; parents = p.1.1.1.0; entries = p.1.1.1.1 }) (λ _. refl)
+    code_by (Memory × (Past × (Between × ((List ℕ × List ℕ) × MarksSeen)))) (coded× memory_code (coded× past_code (coded× between_code (coded× (coded× (coded_list coded_ℕ) (coded_list coded_ℕ)) marks_code))))
+    (λ s. (s.memory, ((s.born, (s.history, s.pending)), ((s.calls, (s.syncs, s.plan)), ((s.parents, s.entries), s.marks)))))
+    (λ p. record { memory = p.0; born = p.1.0.0; history = p.1.0.1.0; pending = p.1.0.1.1; calls = p.1.1.0.0; syncs = p.1.1.0.1.0; plan = p.1.1.0.1.1; parents = p.1.1.1.0.0; entries = p.1.1.1.0.1; marks = p.1.1.1.1 }) (λ _. refl)

@@ -1,5 +1,5 @@
 //! Transfers that begin.
-ghost use Rattle.std.specs.Prelude.{◌≡◌, Some, None};
+ghost use Rattle.std.specs.Prelude.{◌≡◌, Some, None, length};
 ghost use Rattle.fault_entry.specs.page_hash.Names.{is_name};
 ghost use Rattle.fault_entry.specs.page_store.Flight.{note_of};
 ghost use Rattle.fault_entry.specs.page_store.Notes.{Notes};
@@ -17,6 +17,7 @@ ghost use Rattle.fault_entry.specs.vm_world.World.{world_seen, world_table};
 ghost use Rattle.fault_entry.specs.vm_world.WorldSteps.{WorldStep, leaves};
 ghost use Rattle.vm_core.specs.Fits.{FitsAt};
 ghost use Rattle.vm_core.specs.Flights.{CanLeave, IsKeptFor, KeepsButPushed, places_begun, sent_with, store_ready};
+ghost use Rattle.vm_core.specs.Marks.{marks_departed};
 
 use crate::state::VmState;
 use fault_entry::{Disk, Flight, Plan, World, begin_push, begin_read};
@@ -71,7 +72,34 @@ impl<D: Disk> VmState<D> {
             self.new.memory.world.store plan (plan_page plan) result }
         // The maps, the files and the slots stay, but that a page which is pushed counts so.
         ensures tables { KeepsButPushed self.old.memory.world self.new.memory.world plan }
-        // What stays: all but the world. No plan is kept.
+        // The push of a file's page is kept for the seat, with how many entries there are.
+        ensures marks { self.new.marks
+            ≡ marks_departed self.old.marks seat result (length self.old.history) }
+        // What stays: all but the world and the marks. No plan is kept.
+        ensures rest { self.new ≡ record (after_step self.old self.new.memory.world
+            self.new.pending) { marks = self.new.marks } }
+    {
+        let flight = self.depart(seat, plan);
+        self.keep_push(seat, &flight);
+        flight
+    }
+
+    // The transfer of the kept plan leaves; no mark changes.
+    fn depart(&mut self, seat: u32, plan: Plan) -> Flight<D>
+        requires fits { FitsAt self.old seat None }
+        requires kept { (kept : KeptPlan) × IsKeptFor self.old seat plan kept }
+        // The flight is the plan's, and what the world does as it leaves.
+        ensures flight { BeginsFor self.old.memory.world seat plan result }
+        ensures step { WorldStep self.old.memory.world self.new.memory.world self.old.memory.spaces
+            (leaves seat (note_of result)) (is_name (next_name self.old.memory.world.store)) }
+        ensures pends { PendsTails self.old.memory.world
+            (is_name (next_name self.old.memory.world.store)) self.old.pending self.new.pending }
+        ensures places { self.new.memory.world.hat.places
+            ≡ places_begun self.old.memory.world plan }
+        // What the store does, and what stays.
+        ensures begins { BeginsTransfer (store_ready self.old.memory.world plan)
+            self.new.memory.world.store plan (plan_page plan) result }
+        ensures tables { KeepsButPushed self.old.memory.world self.new.memory.world plan }
         ensures rest { self.new ≡ after_step self.old self.new.memory.world self.new.pending }
     {
         let flight = leave(&mut self.world, seat, plan);

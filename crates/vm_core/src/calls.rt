@@ -18,6 +18,7 @@ ghost use Rattle.fault_entry.specs.vm_world.MemoryFits.{MemoryFits};
 ghost use Rattle.fault_entry.specs.vm_world.NotesFit.{NotesFit};
 ghost use Rattle.fault_entry.specs.vm_world.State.{room_of, seat_of};
 ghost use Rattle.file_calls.specs.Locks.{IsAnothers};
+ghost use Rattle.vm_core.specs.Answered.{MarksAfterCall, with_marks};
 ghost use Rattle.vm_core.specs.Calls.{ConcernsMappings, TakesMemory, AnswersCall, IsOwnReply, IsShownAfterCall, SlotsAfterCall, IsHitAfterCall, with_memory, after_answer};
 ghost use Rattle.vm_core.specs.Fits.{FitsAt};
 ghost use Rattle.fault_entry.specs.seg_vn.Serves.{Serves};
@@ -51,6 +52,7 @@ impl<D: Disk> VmState<D> {
         ensures hit { IfOk result (λ attempt. IsHitAfterCall self.old.memory
             self.new.memory.world process call.now attempt) }
         ensures event { IsEvent seat self.old None self.new None }
+        ensures marks { IfOk result (MarksAfterCall self.old self.new process call.now) }
         // Want of memory comes at a call that changes mappings or a Fork alone, and nothing changed then.
         ensures memory { OnErr result (TakesMemory call.now) }
         ensures err { OnErr result (self.new ≡ self.old) }
@@ -81,6 +83,7 @@ impl<D: Disk> VmState<D> {
         ensures hit { IfOk result (λ attempt. IsHitAfterCall self.old.memory
             self.new.memory.world process call.now attempt) }
         ensures event { IsEvent seat self.old None self.new None }
+        ensures marks { IfOk result (MarksAfterCall self.old self.new process call.now) }
         // Want of memory comes at a call that changes mappings or a Fork alone, and nothing changed then.
         ensures memory { OnErr result (TakesMemory call.now) }
         ensures err { OnErr result (self.new ≡ self.old) }
@@ -89,7 +92,7 @@ impl<D: Disk> VmState<D> {
             return self.fork(seat, process, child, call);
         }
         if let Call::Read { .. } | Call::Write { .. } | Call::Truncate { .. } = *call {
-            let attempt = self.serve_file(seat, process, call);
+            let attempt = self.serve_file_marked(seat, process, call);
             return Ok(self.conclude(seat, process, call, attempt));
         }
         let attempt = self.serve(seat, process, call)?;
@@ -169,8 +172,10 @@ impl<D: Disk> VmState<D> {
             self.new.memory.world process call.now attempt) }
         ensures own { IfOk result (IsOwnReply self.old process) }
         ensures alive { IfOk result (λ attempt. StaysAlive self.new.memory process call.now) }
+        ensures marks { IfOk result (MarksAfterCall self.old self.new process call.now) }
         // What stays.
-        ensures rest { self.new ≡ with_memory self.old self.new.memory self.new.pending }
+        ensures rest { self.new ≡ with_marks
+            (with_memory self.old self.new.memory self.new.pending) self.new.marks }
         ensures memory { OnErr result (TakesMemory call.now) }
         ensures err { OnErr result (self.new ≡ self.old) }
     {
@@ -228,8 +233,30 @@ impl<D: Disk> VmState<D> {
         mmap_calls::attempt(&mut self.world, &mut self.spaces, process, call, from)
     }
 
-    // What is answered to a Sync of so many bytes from an address on. It looks first at the page at which the seat's last one stopped.
+    // What is answered to a Sync of so many bytes from an address on; where it is done, the marks rise of the pages that it wants clean.
     fn sync(&mut self, seat: u32, process: u32, addr: u32, bytes: u32) -> Attempt
+        requires room { length (entries_of self.old.history process)
+            < room_of self.old.entries process }
+        requires own { seat_of process ≡ seat }
+        requires alive { IsSome (finite.get self.old.memory.spaces process) }
+        requires fits { MemoryFits self.old.memory }
+        ensures serves { Serves self.old.memory self.new.memory
+            self.old.pending self.new.pending self.old.calls process (Sync addr bytes) result }
+        ensures own { IsOwnReply self.old process result }
+        ensures marks { MarksAfterCall self.old self.new process (Sync addr bytes) result }
+        // What stays.
+        ensures slots { self.new.memory.world.anon ≡ self.old.memory.world.anon }
+        ensures spaces { self.new.memory.spaces ≡ self.old.memory.spaces }
+        ensures rest { self.new ≡ with_marks
+            (with_memory self.old self.new.memory self.new.pending) self.new.marks }
+    {
+        let attempt = self.clean(seat, process, addr, bytes);
+        self.raise_answered(process, addr, bytes, &attempt);
+        attempt
+    }
+
+    // The same, before a mark rises. It looks first at the page at which the seat's last one stopped.
+    fn clean(&mut self, seat: u32, process: u32, addr: u32, bytes: u32) -> Attempt
         requires room { length (entries_of self.old.history process)
             < room_of self.old.entries process }
         requires own { seat_of process ≡ seat }

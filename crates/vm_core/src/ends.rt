@@ -1,5 +1,5 @@
 //! Transfers that end.
-ghost use Rattle.std.specs.Prelude.{◌≡◌, ◌≢◌, ◌≤◌, ℕ, Some, None, false, option_map};
+ghost use Rattle.std.specs.Prelude.{◌≡◌, ◌≢◌, ◌≤◌, ℕ, Some, None, false, length, option_map};
 ghost use Rattle.fault_entry.specs.flat_model.Counted.{top_count};
 ghost use Rattle.fault_entry.specs.page_store.Bays.{bay_at, home};
 ghost use Rattle.fault_entry.specs.page_store.Flight.{IsPerformed, fresh};
@@ -14,6 +14,7 @@ ghost use Rattle.fault_entry.specs.vm_world.StateSteps.{after_step};
 ghost use Rattle.fault_entry.specs.vm_world.WorldSteps.{WorldStep, returns};
 ghost use Rattle.vm_core.specs.Fits.{FitsAt};
 ghost use Rattle.vm_core.specs.Flights.{IsBack, answer_at_end, EndsWith};
+ghost use Rattle.vm_core.specs.Marks.{marks_landed};
 
 use crate::kept::forget;
 use crate::state::VmState;
@@ -50,7 +51,11 @@ impl<D: Disk> VmState<D> {
             ≡ record self.old.memory.world { store = self.new.memory.world.store } }
         ensures spaces { self.new.memory.spaces ≡ self.old.memory.spaces }
         ensures plan { self.new.plan ≡ None }
+        // Its block's mark is as the push of a file's page left it, and none is kept for the seat then.
+        ensures marks { self.new.marks
+            ≡ marks_landed self.old.marks seat flight (length self.old.history) }
     {
+        self.mark_end(seat, &flight);
         let (disk, before, after) = flight.counts();
         let failed = flight.has_failed();
         within_counts(after);

@@ -82,6 +82,7 @@ impl<D: Disk> VmState<D> {
         ensures slots { IfOk result (λ attempt. SlotsAfterCall self.old.memory
             self.new.memory.world process call.now attempt) }
         ensures event { IsEvent seat self.old None self.new None }
+        ensures marks { self.new.marks ≡ self.old.marks }
         ensures err { OnErr result (self.new ≡ self.old) }
     {
         let reply = self.bear(process, child)?;

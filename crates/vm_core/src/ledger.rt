@@ -1,5 +1,5 @@
 //! The history, which has room for all entries that the processes may make.
-ghost use Rattle.std.specs.Prelude.{◌≡◌, ◌+◌, ◌<◌, ◌≤◌, ◌++◌, ◌∷◌, ◌^◌, [], length, sum_by, vec_len, vec_capacity, IfOk};
+ghost use Rattle.std.specs.Prelude.{◌≡◌, suc, ◌+◌, ◌<◌, ◌≤◌, ◌++◌, ◌∷◌, ◌^◌, [], length, sum_by, vec_len, vec_capacity, IfOk};
 ghost use Rattle.fault_entry.specs.flat_model.Told.{entries_of};
 ghost use Rattle.fault_entry.specs.vm_world.State.{room_of};
 
@@ -71,14 +71,18 @@ fn append(history: &mut Vec<Entry>, process: u32, call: &Call, reply: &Reply, cl
 }
 
 impl Ledger {
-    /// No entries yet, and the room for all. The only error is want of memory.
+    /// No entries yet, and the room for all. The only error is want of memory, or of numbers for 2^32 entries.
     pub fn new(alloc: Global, entries: &[u32]) -> Result<Ledger, AllocError>
         requires { length entries.now < 2 ^ 32 }
         ensures history { IfOk result (λ ledger. ledger.history ≡ []) }
         ensures entries { IfOk result (λ ledger. ledger.entries ≡ entries.now) }
     {
+        let total = total(entries);
+        if total > u32::MAX as usize {
+            return Err(AllocError);
+        }
         Ok(Ledger {
-            history: Vec::with_capacity(alloc, total(entries))?,
+            history: Vec::with_capacity(alloc, total)?,
             entries: entries.to_vec(alloc)?,
             left: entries.to_vec(alloc)?,
         })
@@ -93,6 +97,23 @@ impl Ledger {
             Some(place) if (place as usize) < self.left.len() => self.left[place as usize],
             _ => 0,
         }
+    }
+
+    /// How many entries there are. Constant time.
+    pub fn length(&self) -> u32
+        ensures { result ≡ length self.now.history }
+    {
+        self.history.len() as u32
+    }
+
+    /// How many entries there are once a process has made one that may make one more. Constant time.
+    pub fn next(&self, process: u32) -> u32
+        requires { length (entries_of self.now.history process)
+            < room_of self.now.entries process }
+        ensures { result ≡ suc (length self.now.history) }
+    {
+        let _room = self.room(process);
+        self.history.len() as u32 + 1
     }
 
     /// Adds an entry of a process that may make one more. Takes no memory.

@@ -10,6 +10,8 @@ ghost use Rattle.fault_entry.specs.flat_model.Flat.{Flat};
 ghost use Rattle.fault_entry.specs.page_store.Bays.{AreNumbers, numbers_of, pairs_seen};
 ghost use Rattle.fault_entry.specs.page_store.Notes.{no_notes};
 ghost use Rattle.fault_entry.specs.vm_world.FlatMemory.{flat_memory};
+ghost use Rattle.fault_entry.specs.vm_world.FramesFit.{FilesFit};
+ghost use Rattle.fault_entry.specs.vm_world.Marks.{AreOpeningMarks};
 ghost use Rattle.fault_entry.specs.vm_world.Opening.{IsOpening, no_seats};
 ghost use Rattle.fault_entry.specs.vm_world.State.{is_top};
 ghost use Rattle.fault_entry.specs.vm_world.StateFits.{StateFits};
@@ -20,9 +22,11 @@ ghost use Rattle.vm_core.specs.Setup.{disk_total, FilesOnDisks, SwapServes, IsMa
 ghost use Rattle.vm_core.specs.State.{born_of, top_space};
 
 use crate::ledger::Ledger;
+use crate::marks::opening_marks;
 use crate::setup::Setup;
 use crate::state::VmState;
 use crate::syncs::Syncs;
+use disk_marks::DiskMarks;
 use fault_entry::{
     AnonMaps, AnonSlots, Disk, Files, Hat, Ranges, Spaces, Store, World, ZeroObjects,
 };
@@ -38,6 +42,7 @@ struct Tables {
     ledger: Ledger,
     syncs: Syncs,
     born: Vec<bool>,
+    marks: DiskMarks,
 }
 
 /// A process without a parent is alive from the start, with an empty space.
@@ -84,6 +89,9 @@ fn take_tables<D: Disk>(alloc: Global, setup: &Setup<D>) -> Result<Tables, Alloc
     requires translations { 1 ≤ setup.now.translations }
     requires entries { length setup.now.entries.items < 2 ^ 32 }
     requires parents { length setup.now.parents.items < 2 ^ 32 }
+    requires files { FilesFit setup.now.files }
+    requires numbers { (disk blocks : ℕ)
+        → finite.get setup.now.files.disks disk ≡ Some blocks → disk < 8 }
     // Ok: slots and translations, none of them used.
     ensures anon { IfOk result (λ t. t.anon ≡ unused_slots setup.now.slots) }
     ensures slots { IfOk result (λ t. IsSoundAnonSlots t.anon) }
@@ -99,6 +107,8 @@ fn take_tables<D: Disk>(alloc: Global, setup: &Setup<D>) -> Result<Tables, Alloc
     ensures syncs { IfOk result (λ t. t.syncs ≡ replicate setup.now.seats None) }
     ensures born { IfOk result (λ t. t.born.items
         ≡ map (λ parent. parent == 0) setup.now.parents.items) }
+    // What is known of the disks.
+    ensures marks { IfOk result (λ t. AreOpeningMarks setup.now.files setup.now.seats t.marks) }
 {
     Ok(Tables {
         anon: AnonSlots::new(alloc, setup.slots)?,
@@ -107,6 +117,7 @@ fn take_tables<D: Disk>(alloc: Global, setup: &Setup<D>) -> Result<Tables, Alloc
         ledger: Ledger::new(alloc, setup.entries.as_slice())?,
         syncs: Syncs::new(alloc, setup.seats)?,
         born: top_marks(alloc, setup.parents.as_slice())?,
+        marks: opening_marks(alloc, &setup.files, setup.seats)?,
     })
 }
 
@@ -169,12 +180,12 @@ impl<D: Disk> VmState<D> {
         // An error: the setup comes back.
         ensures err { IfErr result (λ back. back ≡ setup) }
     {
+        check_files(&setup.files);
         let Ok(tables) = take_tables(alloc, &setup) else {
             return Err(setup);
         };
         count_disks(setup.disks.as_slice());
         count_swap(&setup.swap);
-        check_files(&setup.files);
         let Setup {
             frames,
             translations,
@@ -204,6 +215,7 @@ impl<D: Disk> VmState<D> {
                 plan: None,
                 born: tables.born,
                 parents,
+                marks: tables.marks,
                 alloc,
             }),
             Err((disks, swap)) => Err(Setup {

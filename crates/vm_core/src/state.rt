@@ -11,6 +11,7 @@ ghost use Rattle.vm_core.specs.State.{kept_seen, with_next_entry};
 use crate::kept::Kept;
 use crate::ledger::Ledger;
 use crate::syncs::Syncs;
+use disk_marks::DiskMarks;
 use fault_entry::{Call, Disk, Reply, Spaces, World};
 use file_calls::FileLocks;
 use std::alloc::Global;
@@ -34,6 +35,8 @@ pub struct VmState<D: Disk> {
     // Of each process whether it was ever alive, and its parent.
     pub(crate) born: Vec<bool>,
     pub(crate) parents: Vec<u32>,
+    // What is known of the blocks of files' disks.
+    pub(crate) marks: DiskMarks,
     // Where a child's space comes from.
     pub(crate) alloc: Global,
 }
@@ -59,6 +62,7 @@ impl<D: Disk> Model for VmState<D> {
       plan = option_map kept_seen s.plan;
       parents = s.parents.items;
       entries = s.ledger.entries;
+      marks = s.marks;
     } };
 
     ghost invariant = { λ s. IsSoundKernel s.world.store s.world.zeros s.spaces.spaces s.ledger.entries (length s.syncs)

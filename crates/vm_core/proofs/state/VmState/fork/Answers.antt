@@ -1,8 +1,9 @@
-use Rattle.std.proofs.Common.{None, sym, subst}
+use Rattle.std.proofs.Common.{None, sym, ap, ◌∙◌, subst}
 use Rattle.fault_entry.specs.vm_world.Events.{IsEvent, MayBear}
 use Rattle.fault_entry.specs.vm_world.State.{KernelState}
 use Rattle.fault_entry.proofs.vm_world.Told.{event_law}
 use Rattle.vm_core.proofs.Forked.{ForkTold, StaysByFork, child-absent, fork-told, room-kept, stays-by}
+use Rattle.vm_core.proofs.MarksKept.{answered-marks}
 use Rattle.vm_core.proofs.state.VmState.fork.Given.{Over}
 use Rattle.vm_core.proofs.state.VmState.fork.Goals.{After-conclude}
 use Rattle.vm_core.proofs.state.VmState.fork.Goals as goal
@@ -25,7 +26,16 @@ told g c =
     c.conclude.ensures.same e.rest c.conclude.ensures.new e.done e.counted c.bear.ensures.modified c.bear.ensures.placed c.conclude.ensures.seated
 
 pub returns : goal.returns
-returns g c = let t = told g c in record { answers = t.answers; slots = t.slots; event = t.event; err = tt }
+returns g c =
+    let t = told g c in
+    record {
+      answers = t.answers;
+      slots = t.slots;
+      event = t.event;
+      marks = ap (λ (s : KernelState). s.marks) c.conclude.ensures.new ∙ answered-marks c.bear.new.self c.args.seat c.args.process c.args.call.now c.conclude.result
+          ∙ ap (λ (s : KernelState). s.marks) c.in_ok-reply.ensures.rest;
+      err = tt;
+    }
 
 pub returns-in_err-reply-clause-event : goal.returns-in_err-reply-clause-event
 returns-in_err-reply-clause-event g c =

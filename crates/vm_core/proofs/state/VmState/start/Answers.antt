@@ -8,9 +8,19 @@ use Rattle.fault_entry.specs.page_store.Bays.{pairs_seen, AreNumbers}
 use Rattle.fault_entry.proofs.vm_world.OpeningFits.{opening_law}
 use Rattle.vm_core.specs.Setup.{HaveCounted}
 use Rattle.vm_core.specs.State.{born_of}
-use Rattle.vm_core.proofs.Starts.{opens, files-fit, disks-fit, have-places, kept-start, same-total, at-replicate}
+use Rattle.vm_core.proofs.Starts.{opens, below-eight, files-fit, disks-fit, have-places, kept-start, same-total, at-replicate}
 use Rattle.vm_core.proofs.Tops.{born-tops}
 use Rattle.vm_core.proofs.state.VmState.start.Goals as goal
+
+pub take_tables-requires-clause-files : goal.take_tables-requires-clause-files
+take_tables-requires-clause-files g c =
+    let setup = c.args.setup in
+    files-fit setup.files (pairs_seen g.D.Disk.seen setup.disks.items) (subst AreNumbers (sym (same-numbers g.D.Disk.seen setup.disks.items)) c.requires.numbers) c.requires.files c.check_files.ensures.few c.check_files.ensures.sound
+
+pub take_tables-requires-clause-numbers : goal.take_tables-requires-clause-numbers
+take_tables-requires-clause-numbers g c disk blocks at =
+    let setup = c.args.setup in
+    below-eight (pairs_seen g.D.Disk.seen setup.disks.items) disk blocks (subst AreNumbers (sym (same-numbers g.D.Disk.seen setup.disks.items)) c.requires.numbers) (c.requires.files.there disk blocks at)
 
 pub invariant_of-result : goal.invariant_of-result
 invariant_of-result g c =
@@ -36,7 +46,7 @@ returns-in-Ok-new-clause-opening g c =
     (subst (λ (l : List (ℕ × _)). HaveCounted (pairs_seen g.D.Disk.seen l)) c.as_slice.ensures.value c.count_disks.ensures) c.count_swap.ensures t.anon t.slots c.new-in-Ok-new.ensures t.frames t.places
     (files-fit setup.files disks numbers c.requires.files c.check_files.ensures.few c.check_files.ensures.sound)
     (disks-fit c.in-Ok-new.store.bays setup.files disks swap setup.slots new.store.bays numbers c.requires.files c.requires.swap)
-    t.spaces (λ p. ap (λ (marks : List Bool). set.contains (born_of marks) p) t.born ∙ born-tops setup.parents.items p) t.history refl (λ f. ap (λ (calls : List (Option ℕ)). slice_index_or calls f None) c.new-in-Ok-new-3.ensures ∙ at-replicate 64 f None) t.syncs refl
+    t.spaces (λ p. ap (λ (marks : List Bool). set.contains (born_of marks) p) t.born ∙ born-tops setup.parents.items p) t.history refl (λ f. ap (λ (calls : List (Option ℕ)). slice_index_or calls f None) c.new-in-Ok-new-3.ensures ∙ at-replicate 64 f None) t.syncs refl t.marks
 
 pub returns-in-Ok-new-clause-fits : goal.returns-in-Ok-new-clause-fits
 returns-in-Ok-new-clause-fits g c = opening_law.fits _ (returns-in-Ok-new-clause-opening g c)
@@ -57,4 +67,5 @@ returns-in-Ok-new-clause-made g c =
       parents = refl;
       entries = t.entries;
       seats = ap (λ (l : List _). length l) t.syncs ∙ length-replicate setup.seats None;
+      marks = t.marks;
     }

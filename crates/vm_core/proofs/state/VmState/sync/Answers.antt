@@ -1,45 +1,43 @@
-use Rattle.std.proofs.Common.{ℕ, List, length, Option, [], sym, ap, ◌∙◌, subst}
-use Rattle.fault_entry.specs.vm_types.declared.call.Call.TheVariants.{Sync}
-use Rattle.fault_entry.specs.vm_world.FlatMemory.{Memory}
-use Rattle.fault_entry.specs.vm_world.MemoryFits.{MemoryFits}
-use Rattle.fault_entry.specs.vm_world.State.{KernelState}
-use Rattle.fault_entry.specs.vm_world.SyncSteps.{start_of}
-use Rattle.fault_entry.specs.vm_world.World.{world_seen}
-use Rattle.fault_entry.specs.vm_world.ZeroObjects.{KnowsZeros}
+use Rattle.std.proofs.Common.{◌≡◌, ℕ, length, sym, ap, ◌∙◌, subst}
+use Rattle.std.specs.Prelude.{IsSome}
+use Rattle.std.specs.FinMap as finite
 use Rattle.fault_entry.specs.seg_vn.Serves.{Serves}
-use Rattle.vm_core.specs.State.{EachHasPlaces, IsSoundKernel}
-use Rattle.vm_core.proofs.Served.{kept-served, synced-own, synced-rest}
+use Rattle.fault_entry.specs.seg_vn.declared.attempt.Attempt.{Attempt}
+use Rattle.fault_entry.specs.vm_types.declared.call.Call.TheVariants.{Sync}
+use Rattle.fault_entry.specs.vm_world.Marks.{MarksSeen}
+use Rattle.fault_entry.specs.vm_world.Segments.{Spaces}
+use Rattle.fault_entry.specs.vm_world.State.{KernelState}
+use Rattle.vm_core.specs.Answered.{MarksAfterAnswer}
+use Rattle.vm_core.proofs.Served.{marked-rest}
 use Rattle.vm_core.proofs.state.VmState.sync.Goals as goal
 
-pub sync-attempt-requires-clause-fits : goal.sync-attempt-requires-clause-fits
-sync-attempt-requires-clause-fits g c = subst (λ (s : KernelState). MemoryFits s.memory) (sym c.self.view_is) c.requires.fits
+pub raise_answered-requires-clause-alive : goal.raise_answered-requires-clause-alive
+raise_answered-requires-clause-alive g c = subst (λ (spaces : Spaces). IsSome (finite.get spaces c.args.process)) (sym c.clean-attempt.ensures.spaces) c.requires.alive
 
-pub invariant_of-self : goal.invariant_of-self
-invariant_of-self g c =
-    let before : Memory = record { world = world_seen c.self.inside.world; spaces = c.self.inside.spaces.spaces } in
-    let after : Memory = record { world = world_seen c.sync-attempt.new.world; spaces = c.self.inside.spaces.spaces } in
-    let zeros = ap (λ w. w.zeros) {y = record c.self.inside.world { store = c.sync-attempt.new.world.store; hat = c.sync-attempt.new.world.hat }} c.sync-attempt.ensures.makes.rest in
-    let seats = sym (ap (λ (l : List (Option ℕ)). length l) c.look_next.ensures) in (
-      subst (λ (n : ℕ). IsSoundKernel c.sync-attempt.new.world.store c.sync-attempt.new.world.zeros c.self.inside.spaces.spaces c.self.inside.ledger.entries n) seats
-          (kept-served before after c.self.inside.world.zeros c.sync-attempt.new.world.zeros _ _ [] _ _ _ _ _ c.self.invariant.0 (subst (λ (zs : List (Option ℕ)). KnowsZeros zs c.self.inside.spaces.spaces) (sym zeros) c.self.invariant.0.known) (c.sync-attempt.ensures.serves [])),
-      subst (λ (n : ℕ). EachHasPlaces c.self.inside.parents.items c.self.inside.spaces.processes (length c.self.inside.born.items) n) seats c.self.invariant.1,
-    )
+pub raise_answered-requires-clause-fits : goal.raise_answered-requires-clause-fits
+raise_answered-requires-clause-fits g c from is =
+    ((subst (λ (a : Attempt). Serves c.args.self.now.memory c.clean-attempt.new.self.memory c.args.self.now.pending c.clean-attempt.new.self.pending c.args.self.now.calls c.args.process (Sync c.args.addr c.args.bytes) a) is c.clean-attempt.ensures.serves).acts 0).memory
 
 pub returns-clause-serves : goal.returns-clause-serves
 returns-clause-serves g c =
-    let after : Memory = record { world = world_seen c.sync-attempt.new.world; spaces = c.self.inside.spaces.spaces } in
-    subst (λ (s : KernelState). Serves s.memory after s.pending c.sync-attempt.new.world.pending s.calls c.args.process (Sync c.args.addr c.args.bytes) c.sync-attempt.result) c.self.view_is (c.sync-attempt.ensures.serves c.self.inside.calls)
+    subst (λ (x : KernelState). Serves c.args.self.now.memory x.memory c.args.self.now.pending x.pending c.args.self.now.calls c.args.process (Sync c.args.addr c.args.bytes) c.clean-attempt.result)
+    (sym c.raise_answered.ensures.rest) c.clean-attempt.ensures.serves
 
-pub returns-clause-own : goal.returns-clause-own
-returns-clause-own g c = synced-own c.args.self.now c.args.process c.sync_start-from.result c.sync-attempt.result (c.sync_start-from.ensures ∙ ap (start_of c.args.self.now) (sym c.requires.own)) c.sync-attempt.ensures.answer
+pub returns-clause-marks : goal.returns-clause-marks
+returns-clause-marks g c =
+    let s = c.args.self.now in
+    let t = c.clean-attempt.new.self in
+    let u = c.raise_answered.new.self in
+    let history : length t.history ≡ length s.history = ap (λ (x : KernelState). length x.history) c.clean-attempt.ensures.rest in
+    let marks : t.marks ≡ s.marks = ap (λ (x : KernelState). x.marks) c.clean-attempt.ensures.rest in
+    subst (λ (x : ℕ × MarksSeen). MarksAfterAnswer s.memory u.memory c.args.process (Sync c.args.addr c.args.bytes) c.clean-attempt.result x.0 x.1 u.marks) {x = (length t.history, t.marks)} {y = (length s.history, s.marks)} (λ i. (history i, marks i))
+    (c.raise_answered.ensures.marks s.memory)
 
 pub returns-clause-slots : goal.returns-clause-slots
-returns-clause-slots g c = ap (λ w. w.anon) {y = record c.self.inside.world { store = c.sync-attempt.new.world.store; hat = c.sync-attempt.new.world.hat }} c.sync-attempt.ensures.makes.rest ∙ ap (λ (s : KernelState). s.memory.world.anon) c.self.view_is
+returns-clause-slots g c = ap (λ (x : KernelState). x.memory.world.anon) c.raise_answered.ensures.rest ∙ c.clean-attempt.ensures.slots
 
 pub returns-clause-spaces : goal.returns-clause-spaces
-returns-clause-spaces g c = ap (λ (s : KernelState). s.memory.spaces) c.self.view_is
+returns-clause-spaces g c = ap (λ (x : KernelState). x.memory.spaces) c.raise_answered.ensures.rest ∙ c.clean-attempt.ensures.spaces
 
 pub returns-clause-rest : goal.returns-clause-rest
-returns-clause-rest g c =
-    let after : Memory = record { world = world_seen c.sync-attempt.new.world; spaces = c.self.inside.spaces.spaces } in
-    synced-rest _ c.args.self.now after c.sync-attempt.new.world.pending c.look_next.new.self c.self.view_is c.look_next.ensures
+returns-clause-rest g c = marked-rest c.args.self.now c.clean-attempt.new.self c.raise_answered.new.self c.clean-attempt.ensures.rest c.raise_answered.ensures.rest
