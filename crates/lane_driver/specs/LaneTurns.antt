@@ -23,7 +23,7 @@ pub record SendsFlight (s t : KernelState) (seat : ℕ) (plan : Plan) (f : Fligh
   pub store : BeginsTransfer (store_ready s.memory.world plan) t.memory.world.store plan (plan_page plan) f
   pub places : t.memory.world.hat.places ≡ places_begun s.memory.world plan
   pub tables : KeepsButPushed s.memory.world t.memory.world plan
-  pub rest : t ≡ after_step s t.memory.world t.pending
+  pub rest : t ≡ record (after_step s t.memory.world t.pending) { marks = t.marks }
 
 -- What follows a try: where the call is done, its entry ends it; where it waits, nothing; and where it needs a transfer, that goes out.
 abbrev pub AfterTry : KernelState → KernelState → ℕ → Call → Attempt → Bool → Option FlightSeen → Type 0
