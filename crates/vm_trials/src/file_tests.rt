@@ -19,7 +19,7 @@ const READ_ONLY: Told = Done(Reply::Refused(Errno::ReadOnly));
 const TOO_BIG: Told = Done(Reply::Refused(Errno::TooBig));
 
 /// These bytes.
-fn bytes(from: &[u8]) -> Told
+pub(crate) fn bytes(from: &[u8]) -> Told
     requires { length from.now ≤ 64 }
 {
     Done(Reply::Bytes(Line::new(from)))

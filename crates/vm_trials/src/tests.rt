@@ -7,6 +7,7 @@ ghost use Rattle.vm_trials.specs.Trials.{IsOnePart, trial_file, trial_files};
 
 use crate::file_tests::change_files;
 use crate::mapping_tests::{change_mappings, sync_pages};
+use crate::moving_tests::move_pages;
 use crate::trial::Told::{self, Busy, Done, Landed, Sent, Still};
 use crate::trial::Trial;
 use Act::{Clock, Do, Land, Try};
@@ -519,6 +520,12 @@ fn first_bytes(disk: &MemDisk, block: usize) -> Option<[u8; 6]> {
     Some([bytes[0], bytes[1], bytes[2], bytes[3], bytes[4], bytes[5]])
 }
 
+/// A word of four bytes, each 9 more than the block's number, and two bytes of this value.
+fn stored(block: u8, behind: u8) -> [u8; 6] {
+    let byte = block.wrapping_add(9);
+    [byte, byte, byte, byte, behind, behind]
+}
+
 /// What they are at the close: each page of the first file that was stored into has its last word, and zeros past the file's end.
 fn closed(acts: Acts, disk: u32, block: u8) -> Option<[u8; 6]> {
     Some(match (acts, disk, block) {
@@ -531,6 +538,10 @@ fn closed(acts: Acts, disk: u32, block: u8) -> Option<[u8; 6]> {
         (Acts::ChangeMappings, 0, 1) => [0, 0, 0, 4, 1, 1],
         (Acts::ChangeFiles, 0, 1) => [1, 0x61, 0, 0, 0, 0],
         (Acts::ChangeFiles, 0, 2..=15) => [0; 6],
+        (Acts::MovePages, 0, 1..=2) => stored(block, block),
+        (Acts::MovePages, 0, 3..=6) => stored(block, 0),
+        (Acts::MovePages, 0, 7) => [1, 1, 1, 1, 0, 0],
+        (Acts::MovePages, 0, 8) => [0; 6],
         (_, 0, _) => [block; 6],
         _ => [16 | block; 6],
     })
@@ -620,6 +631,7 @@ pub(crate) enum Acts {
     SyncPages,
     ChangeMappings,
     ChangeFiles,
+    MovePages,
 }
 
 fn make_acts(trial: &mut Trial, acts: Acts) -> Result<(), Fail> {
@@ -628,6 +640,7 @@ fn make_acts(trial: &mut Trial, acts: Acts) -> Result<(), Fail> {
         Acts::SyncPages => sync_pages(trial),
         Acts::ChangeMappings => change_mappings(trial),
         Acts::ChangeFiles => change_files(trial),
+        Acts::MovePages => move_pages(trial),
     }
 }
 
