@@ -1,5 +1,5 @@
 -- What answers leave of the marks.
-use Rattle.std.proofs.Common.{◌≡◌, ◌≢◌, ℕ, suc, ◌<◌, ◌≤◌, Bool, true, false, cond, List, [], length, Option, refl, sym, ap, ◌∙◌, subst}
+use Rattle.std.proofs.Common.{◌≡◌, ℕ, suc, ◌<◌, ◌≤◌, Bool, true, false, cond, List, [], length, Option, refl, sym, ap, ◌∙◌, subst}
 use Rattle.std.specs.Prelude.{IsSome, nat_lt}
 use Rattle.std.proofs.lemmas.Bool.{lt-ltb, ltb-true}
 use Rattle.fault_entry.specs.seg_vn.Serves.{Serves}
@@ -9,9 +9,8 @@ use Rattle.fault_entry.specs.vm_types.Pages.{pages_in}
 use Rattle.fault_entry.specs.vm_types.Parts.{file_of_call}
 use Rattle.fault_entry.specs.vm_types.declared.call.Call.{Call}
 use Rattle.fault_entry.specs.vm_types.declared.call.Call.TheVariants.{Sync, Truncate}
-use Rattle.fault_entry.specs.vm_types.declared.call.Reply.{Reply}
 use Rattle.fault_entry.specs.vm_types.declared.call.Reply.TheVariants as reply
-use Rattle.fault_entry.specs.vnode_files.Files.{FilesSeen, vnode_at}
+use Rattle.fault_entry.specs.vnode_files.Files.{vnode_at}
 use Rattle.fault_entry.specs.vnode_files.Layout.{pages_kept}
 use Rattle.fault_entry.specs.vm_world.FlatMemory.{Memory}
 use Rattle.fault_entry.specs.vm_world.FramesFit.{FilesFit}
@@ -20,13 +19,6 @@ use Rattle.fault_entry.specs.vm_world.State.{KernelState}
 use Rattle.mark_laws.specs.Cuts.{marks_cut, marks_shortened}
 use Rattle.vm_core.specs.Answered.{HadPages, MarksAfterAnswer, length_before, marks_cut_from, with_marks}
 use Rattle.vm_core.proofs.CutFiles.{cut-there, cut-pages, cut-disk, cut-blocks}
-
--- A SYNC that isn't done yet raises none.
-pub unraised : (old new : Memory) (p addr len : ℕ) (a : Attempt) (entries : ℕ) (m : MarksSeen) → ((from : ℕ) → a ≢ Done (reply.Synced from)) → MarksAfterAnswer old new p (Sync addr len) a entries m m
-unraised old new p addr len (Need plan) entries m none = refl
-unraised old new p addr len (Busy h) entries m none = refl
-unraised old new p addr len (Done (reply.Synced from)) entries m none = absurd (none from refl)
-unraised old new p addr len (Done r) entries m none = refl
 
 -- A CALL ON A FILE. The file of a Truncate that is done had the pages of its old length, and keeps them.
 pub had-pages : (old new : Memory) (pending more : ℕ) (calls : List (Option ℕ)) (p : ℕ) (call : Call) (a : Attempt) (before : ℕ) → FilesFit old.world.files → Serves old new pending more calls p call a → before ≡ length_before old.world.files call

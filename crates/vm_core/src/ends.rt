@@ -32,6 +32,7 @@ impl<D: Disk> VmState<D> {
     /// error, exactly where the transfer failed and a call is given; that is then the reply to the call.
     ///
     /// Takes no memory, and makes no disk call. Constant expected time.
+    #[inline(always)]
     pub fn end(&mut self, seat: u32, flight: Flight<D>, call: Option<(u32, &Call)>) -> Option<Reply>
         requires back { (sent : Sent) × FitsAt self.old seat (Some sent)
             × IsBack sent flight (option_map (λ (c : ℕ × _). (c.0, c.1.now)) call) }
