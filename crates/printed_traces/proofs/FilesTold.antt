@@ -10,6 +10,7 @@ use Rattle.std.proofs.lemmas.Option.{get_or_from_slice_get, slice_get_within}
 use Rattle.std.proofs.lemmas.Slice.Eq.{bytes_eq-Decides}
 use Rattle.volume_files.specs.block_device.DiskSeen.{DiskSeen}
 use Rattle.volume_files.specs.block_device.declared.rack.Spec.{Spec}
+use Rattle.volume_files.specs.volume_disks.declared.volume_spec.VolumeSpec.{VolumeSpec}
 use Rattle.volume_files.specs.flat_model.Flat.{IsFile}
 use Rattle.volume_files.specs.vnode_files.Files.{FilesSeen, vnode_at}
 use Rattle.volume_files.specs.vnode_files.Grow.{page_count}
@@ -48,7 +49,7 @@ name-told name is =
     rw (some, short, letters-told name is.bytes, other) refl
 
 -- no disk has more blocks than a table may say
-pub few-blocks : (holds : Spec → Option (List (List ℕ))) (specs : List Spec) (disks : List (ℕ × ℕ)) (tables : List TableSeen) → AreTablesRead holds specs disks tables
+pub few-blocks : (holds : Spec → Option (List (List ℕ))) (specs : List VolumeSpec) (disks : List (ℕ × ℕ)) (tables : List TableSeen) → AreTablesRead holds specs disks tables
     → (i : ℕ) (d : ℕ × ℕ) → slice_get disks i ≡ Some d → d.1 ≤ 16384
 few-blocks holds [] [] tables read i d at = absurd (cc at)
 few-blocks holds [] (x ∷ disks) tables read i d at = absurd read

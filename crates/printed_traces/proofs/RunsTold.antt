@@ -9,8 +9,8 @@ use Rattle.std.proofs.lemmas.Bool.{eqb-true}
 use Rattle.std.proofs.lemmas.Bool.Decides.{nat_tests}
 use Rattle.std.proofs.lemmas.List.{length-map}
 use Rattle.volume_files.specs.block_device.DiskSeen.{DiskSeen}
-use Rattle.volume_files.specs.block_device.RackSeen.{spec_number}
 use Rattle.volume_files.specs.block_device.declared.rack.Spec.{Spec}
+use Rattle.volume_files.specs.volume_disks.declared.volume_spec.VolumeSpec.{VolumeSpec}
 use Rattle.volume_files.specs.flat_model.Flat.{File, IsFile, IsFlat}
 use Rattle.volume_files.specs.flat_model.Opening.{flat_at_opening}
 use Rattle.volume_files.specs.vm_types.declared.call.Entry.{Entry}
@@ -21,9 +21,9 @@ use Rattle.volume_files.specs.vm_script.PlanSeen.{PlanSeen}
 use Rattle.volume_files.specs.vm_script.Processes.{kernel_parents}
 use Rattle.volume_files.specs.vm_script.Rules.{amounts_of, broken_rule, has_wrong_disk, has_wrong_frames, is_from_to, is_wrong_file, lacks_disk}
 use Rattle.volume_files.specs.Attached.{AttachedSeen}
-use Rattle.volume_files.specs.Opened.{OpenedFile, disk_numbered, opened_flat_file, opening_flat, top_processes}
+use Rattle.volume_files.specs.Opened.{OpenedFile, opened_flat_file, opening_flat, top_processes, volume_number, volume_numbered}
 use Rattle.volume_files.specs.Written.{disk_sizes}
-use Rattle.volume_files.proofs.MountSpecs.{numbered_is}
+use Rattle.volume_files.proofs.MountSpecs.{volume_is}
 use Rattle.volume_files.proofs.flat_model.Gap.{test_none}
 use Rattle.volume_files.proofs.flat_model.Opened.{IsFlat-opening}
 use Rattle.volume_files.proofs.flat_model.WellFormed.{Each-All, IsFlat-with_files}
@@ -40,16 +40,16 @@ rise-lower low high [] le up = tt
 rise-lower low high (x ∷ xs) le up = let a = up.0 in (omega (arith, le, a), up.1, up.2)
 
 -- those of a plan's disks
-numbers-rise : (setup : List SetupLine) (a n : ℕ) → a + n ≤ 8 → RiseFrom a (map spec_number (filter_map (disk_numbered setup) (range_with_len a n)))
+numbers-rise : (setup : List SetupLine) (a n : ℕ) → a + n ≤ 8 → RiseFrom a (map volume_number (filter_map (volume_numbered setup) (range_with_len a n)))
 numbers-rise setup a zero low = tt
-numbers-rise setup a (suc n) low = by_option (disk_numbered setup a) refl (numbers-rise setup (a + 1) n (omega (arith, low)))
+numbers-rise setup a (suc n) low = by_option (volume_numbered setup a) refl (numbers-rise setup (a + 1) n (omega (arith, low)))
   where
-    by_option : (o : Option Spec) → disk_numbered setup a ≡ o → RiseFrom (a + 1) (map spec_number (filter_map (disk_numbered setup) (range_with_len (a + 1) n)))
-        → RiseFrom a (map spec_number (cons_option o (filter_map (disk_numbered setup) (range_with_len (a + 1) n))))
-    by_option None e rest = rise-lower a (a + 1) (map spec_number (filter_map (disk_numbered setup) (range_with_len (a + 1) n))) (omega arith) rest
+    by_option : (o : Option VolumeSpec) → volume_numbered setup a ≡ o → RiseFrom (a + 1) (map volume_number (filter_map (volume_numbered setup) (range_with_len (a + 1) n)))
+        → RiseFrom a (map volume_number (cons_option o (filter_map (volume_numbered setup) (range_with_len (a + 1) n))))
+    by_option None e rest = rise-lower a (a + 1) (map volume_number (filter_map (volume_numbered setup) (range_with_len (a + 1) n))) (omega arith) rest
     by_option (Some s) e rest =
-        let same = numbered_is setup a s e in
-        (omega (arith, same), omega (arith, same, low), subst (λ (k : ℕ). RiseFrom (k + 1) (map spec_number (filter_map (disk_numbered setup) (range_with_len (a + 1) n)))) (sym same) rest)
+        let same = volume_is setup a s e in
+        (omega (arith, same), omega (arith, same, low), subst (λ (k : ℕ). RiseFrom (k + 1) (map volume_number (filter_map (volume_numbered setup) (range_with_len (a + 1) n)))) (sym same) rest)
 
 sizes-numbers : (disks : List (ℕ × DiskSeen)) → map (λ (d : ℕ × ℕ). d.0) (disk_sizes disks) ≡ map (λ (d : ℕ × DiskSeen). d.0) disks
 sizes-numbers [] = refl

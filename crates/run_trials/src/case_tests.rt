@@ -298,8 +298,7 @@ const CASES: [Case; 34] = [
     Case {
         name: "joined disks",
         script: b"disk 0 blank 8\ndisk 1 blank 8\njoin 0 stripe 1\nprocess\nend\n",
-        status: 3,
-        text: b"script: later\n",
+        text: b"process 1\n5 exit ok\n",
         ..WHOLE
     },
     Case {

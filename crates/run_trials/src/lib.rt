@@ -10,6 +10,8 @@ mod fault_tests;
 #[cfg(test)]
 mod file_tests;
 #[cfg(test)]
+mod joined_tests;
+#[cfg(test)]
 mod kept_tests;
 #[cfg(test)]
 mod mapping_tests;

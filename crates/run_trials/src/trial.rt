@@ -5,7 +5,7 @@ use block_device::{
 use std::alloc::{AllocError, Global};
 use std::sync::Wait;
 use std::thread::Threads;
-use vm_run::{Outcome, RunFault, run};
+use vm_run::{JoinedDisk, Outcome, RunFault, run};
 use vm_types::Entry;
 
 /// The call of each outside that fails; 0 stands for none.
@@ -28,8 +28,8 @@ pub(crate) const NEVER: Fails = Fails {
     swap: 0,
 };
 
-/// What a run left: its status, the step of its fault, its text, its history, the blocks of the disks that came back, and how many
-/// transfers the first of them and the swap disk were asked for, reads and writes.
+/// What a run left: its status, the step of its fault, its text, its history, the blocks of the disks that came back, those of two that
+/// are joined one behind the other, and how many transfers the first, the second and the swap disk were asked for, reads and writes.
 #[derive(Drop)]
 pub(crate) struct Left {
     pub(crate) status: u8,
@@ -38,6 +38,7 @@ pub(crate) struct Left {
     pub(crate) entries: Vec<Entry>,
     pub(crate) disks: Vec<Vec<Block>>,
     pub(crate) first: (u64, u64),
+    pub(crate) second: (u64, u64),
     pub(crate) swap: (u64, u64),
 }
 
@@ -87,15 +88,41 @@ fn blocks_of(alloc: Global, disks: &[MemDisk]) -> Result<Vec<Vec<Block>>, AllocE
     Ok(blocks)
 }
 
-fn left_of(alloc: Global, outcome: &Outcome<MemDisk>, text: Vec<u8>) -> Result<Left, AllocError> {
+// The disks that these stand for, one behind the other.
+fn members_of(alloc: Global, disks: Vec<JoinedDisk<MemDisk>>) -> Result<Vec<MemDisk>, AllocError> {
+    let mut members = Vec::new(alloc);
+    for disk in disks {
+        let (first, second) = disk.parts();
+        members.push(first)?;
+        if let Some(second) = second {
+            members.push(second)?;
+        }
+    }
+    Ok(members)
+}
+
+fn swap_transfers(swap: Option<JoinedDisk<MemDisk>>) -> (u64, u64) {
+    match swap {
+        Some(disk) => transfers(Some(&disk.parts().0)),
+        None => (0, 0),
+    }
+}
+
+fn left_of(
+    alloc: Global,
+    outcome: Outcome<JoinedDisk<MemDisk>>,
+    text: Vec<u8>,
+) -> Result<Left, AllocError> {
+    let members = members_of(alloc, outcome.disks)?;
     Ok(Left {
         status: outcome.status,
         fault: step_of(&outcome.fault),
         text,
         entries: Vec::from_slice(alloc, outcome.history.entries())?,
-        disks: blocks_of(alloc, &outcome.disks)?,
-        first: transfers(outcome.disks.first()),
-        swap: transfers(outcome.swap.as_ref()),
+        disks: blocks_of(alloc, &members)?,
+        first: transfers(members.first()),
+        second: transfers(members.get(1)),
+        swap: swap_transfers(outcome.swap),
     })
 }
 
@@ -107,7 +134,7 @@ fn run_over<R: Rack>(
     script: &[u8],
     fails: &Fails,
     rack: &mut R,
-) -> Result<(Outcome<R::D>, Vec<u8>), AllocError> {
+) -> Result<(Outcome<JoinedDisk<R::D>>, Vec<u8>), AllocError> {
     let words = words_of(alloc, words)?;
     let bytes = Vec::from_slice(alloc, script)?;
     let mut source = MemSource::new(bytes, 7, [fails.source].to_vec(alloc)?);
@@ -126,7 +153,7 @@ pub(crate) fn run_trial(
 ) -> Result<Left, AllocError> {
     let mut rack = MemRack::new(alloc, [fails.rack].to_vec(alloc)?, calls_of(alloc, fails)?);
     let (outcome, text) = run_over(rt, alloc, words, script, fails, &mut rack)?;
-    left_of(alloc, &outcome, text)
+    left_of(alloc, outcome, text)
 }
 
 /// Runs a script over memory forms, for these words, with a disk of these blocks under the path v.
@@ -143,7 +170,7 @@ pub(crate) fn run_kept(
         rack.keep(PathText::new(alloc, b"v")?, Vec::from_slice(alloc, blocks)?)?;
     }
     let (outcome, text) = run_over(rt, alloc, words, script, fails, &mut rack)?;
-    left_of(alloc, &outcome, text)
+    left_of(alloc, outcome, text)
 }
 
 // A rack whose disks don't tell what they hold.

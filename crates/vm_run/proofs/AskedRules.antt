@@ -1,6 +1,6 @@
 -- What is to be run breaks no rule that looks at its script alone.
-use Rattle.std.proofs.Common.{◌≡◌, ℕ, Bool, true, false, refl, subst}
-use Rattle.std.specs.Prelude.{Option, Some, None, Result, Ok, Err, if◌then◌else◌}
+use Rattle.std.proofs.Common.{◌≡◌, ℕ, refl, subst}
+use Rattle.std.specs.Prelude.{Option, Some, None, Result, Ok, Err}
 use Rattle.volume_files.specs.vm_script.PlanSeen.{PlanSeen}
 use Rattle.volume_files.specs.vm_script.Plans.{plan_of}
 use Rattle.volume_files.specs.vm_script.Rules.{broken_rule}
@@ -9,19 +9,15 @@ use Rattle.command_line.specs.declared.options.Options.{Options}
 use Rattle.command_line.specs.Options.{options_of}
 use Rattle.vm_run.specs.declared.ending.Ending.{Ending}
 use Rattle.vm_run.specs.declared.ending.Ending.TheVariants as ending
-use Rattle.vm_run.specs.Asked.{Asked, Asks, Given, WasAsked, by_rules, by_script, is_later}
+use Rattle.vm_run.specs.Asked.{Asked, Asks, Given, WasAsked, by_rules, by_script}
 
 module _ (what : Asked) where
   by_broken : (o : Options) (plan : PlanSeen) (r : Option ℕ) → broken_rule plan ≡ r → by_rules o plan r ≡ Ok what → broken_rule what.plan ≡ None
   by_broken o plan None is h = let same : record { options = o; plan = plan } ≡ what = cc in subst (λ (w : Asked). broken_rule w.plan ≡ None) same is
   by_broken o plan (Some rule) is h = absurd cc
 
-  by_later : (o : Options) (plan : PlanSeen) (b : Bool) → ◌≡◌ {A = Result Asked Ending} (if b then Err ending.Later else by_rules o plan (broken_rule plan)) (Ok what) → broken_rule what.plan ≡ None
-  by_later o plan true h = absurd cc
-  by_later o plan false h = by_broken o plan (broken_rule plan) refl h
-
   by_text : (o : Options) (r : Result PlanSeen ScriptFault) → by_script o r ≡ Ok what → broken_rule what.plan ≡ None
-  by_text o (Ok plan) h = by_later o plan (is_later plan) h
+  by_text o (Ok plan) h = by_broken o plan (broken_rule plan) refl h
   by_text o (Err f) h = absurd cc
 
 pub asked-rules : (g : Given) (what : Asked) → WasAsked g (Ok what) → broken_rule what.plan ≡ None

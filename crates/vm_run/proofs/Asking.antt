@@ -21,7 +21,6 @@ script-stops words rest holds o is plain old new ending.NotRead h = record { ris
 script-stops words rest holds o is plain old new ending.Memory h = tt
 script-stops words rest holds o is plain old new ending.Usage h = absurd h
 script-stops words rest holds o is plain old new ending.Whole h = absurd h
-script-stops words rest holds o is plain old new ending.Later h = absurd h
 script-stops words rest holds o is plain old new (ending.Refused r) h = absurd h
 script-stops words rest holds o is plain old new ending.OpeningSink h = absurd h
 script-stops words rest holds o is plain old new ending.Sink h = absurd h
@@ -40,7 +39,6 @@ module _ (words : List (List ℕ)) (rest : Option (List ℕ)) (holds : Spec → 
   plan-ends plan (Ok (request.Run options read)) plain h t =
       (by-words (Ok (record { options = options; plan = read })) (plain, h.0, h.1, ap (by_script o) h.2 ∙ t.0), t.1)
   plan-ends plan (Ok (request.Check a)) plain h t = absurd t
-  plan-ends plan (Err ending.Later) plain h t = by-words (Err ending.Later) (plain, h.0, h.1, ap (by_script o) h.2 ∙ t)
   plan-ends plan (Err (ending.Refused x)) plain h t = by-words (Err (ending.Refused x)) (plain, h.0, h.1, ap (by_script o) h.2 ∙ t)
   plan-ends plan (Err ending.Whole) plain h t = absurd t
   plan-ends plan (Err ending.Usage) plain h t = absurd t
@@ -64,7 +62,6 @@ module _ (words : List (List ℕ)) (rest : Option (List ℕ)) (holds : Spec → 
   check-ends (Err ending.Whole) asked answer stops = absurd stops
   check-ends (Err ending.Usage) asked answer stops = absurd stops
   check-ends (Err (ending.NoScript f)) asked answer stops = absurd stops
-  check-ends (Err ending.Later) asked answer stops = absurd stops
   check-ends (Err (ending.Refused x)) asked answer stops = absurd stops
   check-ends (Err ending.OpeningSink) asked answer stops = absurd stops
   check-ends (Err ending.Sink) asked answer stops = absurd stops

@@ -177,7 +177,6 @@ module _ (st : ℕ) (ft : Option RunFault) (g : Given) (o : Outside) (what : Ask
   close-failed f new w i disk at small last since told front kept ending.Whole c = absurd c
   close-failed f new w i disk at small last since told front kept ending.Usage c = absurd c
   close-failed f new w i disk at small last since told front kept (ending.NoScript x) c = absurd c
-  close-failed f new w i disk at small last since told front kept ending.Later c = absurd c
   close-failed f new w i disk at small last since told front kept (ending.Refused x) c = absurd c
   close-failed f new w i disk at small last since told front kept ending.NotRead c = absurd c
   close-failed f new w i disk at small last since told front kept ending.OpeningSink c = absurd c
@@ -241,7 +240,6 @@ module _ (st : ℕ) (ft : Option RunFault) (g : Given) (o : Outside) (what : Ask
   shows told front none mid new w r tables (ending.Closing f) h = absurd h
   shows told front none mid new w r tables ending.Usage h = absurd h
   shows told front none mid new w r tables (ending.NoScript x) h = absurd h
-  shows told front none mid new w r tables ending.Later h = absurd h
   shows told front none mid new w r tables (ending.Refused x) h = absurd h
   shows told front none mid new w r tables ending.NotRead h = absurd h
   shows told front none mid new w r tables ending.OpeningSink h = absurd h

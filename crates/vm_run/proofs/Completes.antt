@@ -55,7 +55,6 @@ module _ (g : Given) (o : Outside) (e : End) where
   by-case ending.Whole s f c what is ns nk nr = inl s
   by-case ending.Usage s f c what is ns nk nr = absurd (not-stopped g what ending.Usage is c.0)
   by-case (ending.NoScript x) s f c what is ns nk nr = absurd (not-stopped g what (ending.NoScript x) is c.0)
-  by-case ending.Later s f c what is ns nk nr = absurd (not-stopped g what ending.Later is c.0)
   by-case (ending.Refused r) s f (inl c) what is ns nk nr = absurd (not-stopped g what (ending.Refused r) is c.0)
   by-case (ending.Refused r) s f (inr c) what is ns nk nr = inr (inr (inr (record {
     status = s;

@@ -9,9 +9,9 @@ use Rattle.std.proofs.lemmas.Bool.Decides.{eqb_tells}
 use Rattle.std.proofs.lemmas.Option.{none-some, same_Some}
 use Rattle.std.proofs.lemmas.List.{length-map}
 use Rattle.volume_files.specs.block_device.DiskSeen.{DiskSeen}
-use Rattle.volume_files.specs.block_device.RackSeen.{spec_number}
 use Rattle.volume_files.specs.block_device.declared.disk_fault.DiskFault.{DiskFault}
-use Rattle.volume_files.specs.block_device.declared.rack.Spec.{Spec}
+use Rattle.volume_files.specs.volume_disks.declared.volume_spec.VolumeSpec.{VolumeSpec}
+use Rattle.volume_files.specs.volume_disks.declared.volume_spec.VolumeSpec.TheVariants.{Plain, Joined}
 use Rattle.volume_files.specs.block_device.declared.rack.Spec.TheVariants as spec
 use Rattle.volume_files.specs.block_device.StreamSeen.{SinkSeen}
 use Rattle.volume_files.proofs.flat_model.Bytes.{All-slice_get}
@@ -34,8 +34,8 @@ use Rattle.volume_files.specs.Attached.{AttachedSeen, FileDisksTell, bare_disks}
 use Rattle.volume_files.specs.Closed.{SayTables, StoreFiles, flat_bytes, info_at, infos_in_flat, mode_in, modes_in}
 use Rattle.vm_run.specs.Course.{IsReady}
 use Rattle.vm_run.specs.Ended.{End, HasLateCause, CountsReach}
-use Rattle.volume_files.specs.Handed.{HaveTold, HandsAll, HasSpecSize, disk_numbers, disk_handed, volumes_of, sizes_of}
-use Rattle.volume_files.specs.Opened.{OpenedFile, disk_specs, infos_of, names_of, opening_flat, stored_bytes}
+use Rattle.volume_files.specs.Handed.{HaveTold, HandsAll, HasSpecSize, volume_numbers, disk_handed, volumes_of, sizes_of}
+use Rattle.volume_files.specs.Opened.{OpenedFile, infos_of, names_of, opening_flat, setup_volumes, stored_bytes, volume_number}
 use Rattle.vm_run.specs.Played.{IsStarted, KernelLeaves, LeftSeen, IsDiskOf}
 use Rattle.volume_files.specs.Written.{infos_made}
 use Rattle.vm_run.specs.Run.{AreClosedBytes, AreOpenedBytes, Begun, ClosesFiles, LeavesFiles, DisksTell, IsOpened, flat_opened, flat_closed}
@@ -55,9 +55,11 @@ told-before old new k some = by old.content refl
     by None is = absurd (false≢true (subst IsSome (k.untold is) some))
     by (Some blocks) is = subst IsSome (sym is) refl
 
-pub spec-size : (s : Spec) (d e : DiskSeen) → e.size ≡ d.size → HasSpecSize s d → HasSpecSize s e
-spec-size (spec.Blank n blocks) d e same h = same ∙ h
-spec-size (spec.Path n path) d e same h = tt
+pub spec-size : (s : VolumeSpec) (d e : DiskSeen) → e.size ≡ d.size → HasSpecSize s d → HasSpecSize s e
+spec-size (Plain (spec.Blank n blocks)) d e same h = same ∙ h
+spec-size (Plain (spec.Path n path)) d e same h = tt
+spec-size (Joined (spec.Blank n blocks) second mirror) d e same h = same ∙ h
+spec-size (Joined (spec.Path n path) second mirror) d e same h = tt
 
 -- the names of files, by their modes and by their records
 names-of-modes : (vs : List VnodeSeen) → map (λ (v : VnodeSeen). v.info.name) vs ≡ map (λ (m : FileMode). m.name) (map mode_of vs)
@@ -120,8 +122,8 @@ module _ (st : ℕ) (ft : Option RunFault) (g : Given) (what : Asked) (files : L
   read-bytes : AreOpenedBytes g what files ended bytes
   read-bytes = record { lengths = ready.read.lengths; told = λ t. ready.read.told (disks-told t) }
 
-  count-new : length (bare_disks new) ≡ length (disk_specs what.plan.setup)
-  count-new = length-map new (λ (p : ℕ × DiskSeen). p.1) ∙ sym (length-map new number) ∙ ap length (numbers-old ∙ ready.placed.numbers) ∙ length-map (disk_specs what.plan.setup) spec_number
+  count-new : length (bare_disks new) ≡ length (setup_volumes what.plan.setup)
+  count-new = length-map new (λ (p : ℕ × DiskSeen). p.1) ∙ sym (length-map new number) ∙ ap length (numbers-old ∙ ready.placed.numbers) ∙ length-map (setup_volumes what.plan.setup) volume_number
 
   hands-all : HandsAll what.plan (bare_disks new) l.swap
   hands-all = record {
@@ -144,7 +146,7 @@ module _ (st : ℕ) (ft : Option RunFault) (g : Given) (what : Asked) (files : L
   }
 
   -- the disks that come back have numbers of the plan
-  numbers-new : map number new ≡ disk_numbers what.plan
+  numbers-new : map number new ≡ volume_numbers what.plan
   numbers-new = numbers-old ∙ ready.placed.numbers
 
   reached : CountsReach what.plan (bare_disks new) l.swap l.history.entries

@@ -48,7 +48,6 @@ module _ (st : ℕ) (ft : Option RunFault) (g : Given) (o : Outside) (nothing : 
       → AskStops g o.source_old o.source_new how → CaseOf g o (wrote_before o) (record { status = st; fault = ft; history = H; disks = disks; swap = swap }) how
   asked-stop H disks swap ending.Usage entries counts none last a = (a, bare-end H disks swap ending.Usage entries counts none last)
   asked-stop H disks swap (ending.NoScript f) entries counts none last a = (a, bare-end H disks swap (ending.NoScript f) entries counts none last)
-  asked-stop H disks swap ending.Later entries counts none last a = (a, bare-end H disks swap ending.Later entries counts none last)
   asked-stop H disks swap (ending.Refused r) entries counts none last a = inl (a, bare-end H disks swap (ending.Refused r) entries counts none last)
   asked-stop H disks swap ending.NotRead entries counts none last a = (a, bare-end H disks swap ending.NotRead entries counts none last)
   asked-stop H disks swap ending.Memory entries counts none last a = inl (record {
@@ -168,7 +167,6 @@ module _ (st : ℕ) (ft : Option RunFault) (g : Given) (o : Outside) (H : Histor
   checked-stop a ending.Whole w t = absurd t
   checked-stop a ending.Usage w t = absurd t
   checked-stop a (ending.NoScript f) w t = absurd t
-  checked-stop a ending.Later w t = absurd t
   checked-stop a (ending.Refused r) w t = absurd t
   checked-stop a ending.NotRead w t = absurd t
   checked-stop a ending.OpeningSink w t = absurd t

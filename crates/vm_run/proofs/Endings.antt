@@ -33,7 +33,6 @@ module _ (o : Options) (plan : PlanSeen) (H : List Entry) (infos : List FileInfo
   middle-stopped bytes are ending.Whole m = absurd m
   middle-stopped bytes are ending.Usage m = absurd m
   middle-stopped bytes are (ending.NoScript f) m = absurd m
-  middle-stopped bytes are ending.Later m = absurd m
   middle-stopped bytes are (ending.Refused r) m = absurd m
   middle-stopped bytes are ending.NotRead m = absurd m
   middle-stopped bytes are ending.OpeningSink m = absurd m

@@ -68,7 +68,6 @@ module _ (g : Given) (s0 s1 r0 r1 n0 n1 : ℕ) (k0 k1 k2 : SinkSeen) (e : End) (
   line-told ending.Whole c w = record { course = c.course; shown = c.shown; wrote = still_wrote k0 k1 k2 (whole_text c.course e) c.wrote (silent k1 k2 w) }
   line-told ending.Usage c w = (c.0, bare-line ending.Usage c.1 w)
   line-told (ending.NoScript f) c w = (c.0, bare-line (ending.NoScript f) c.1 w)
-  line-told ending.Later c w = (c.0, bare-line ending.Later c.1 w)
   line-told (ending.Refused r) (inl c) w = inl (c.0, bare-line (ending.Refused r) c.1 w)
   line-told (ending.Refused r) (inr c) w = inr (record {
     what = c.what;

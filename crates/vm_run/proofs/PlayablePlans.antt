@@ -87,7 +87,6 @@ sound-act names few act.Wait h = h
 -- a plan that may be played may be played with the numbers of its files
 pub playable-named : (names : List (List ℕ)) (plan : PlanSeen) → length names < 2 ^ 32 → IsPlayable plan → IsPlayable (with_files names plan)
 playable-named names plan few p = record {
-  now = p.now;
   sound = record {
     nests = blocks-named names plan.parents p.sound.nests;
     acts = All-map (λ (l : PlanLine). IsSoundAct l.act) (line_with_file names) plan.lines

@@ -75,7 +75,6 @@ module _ (one : OneAnswer) (g : Given) (o : Outside) (e : End) where
   by-case (ending.Checked ends.Sink) s c = other 6 (omega arith) s
   by-case ending.Usage s c = other 2 (omega arith) s
   by-case (ending.NoScript f) s c = other 3 (omega arith) s
-  by-case ending.Later s c = other 3 (omega arith) s
   by-case (ending.Refused r) s c = other 4 (omega arith) s
   by-case ending.NotRead s c = other 5 (omega arith) s
   by-case ending.OpeningSink s c = other 6 (omega arith) s

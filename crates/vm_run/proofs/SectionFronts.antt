@@ -40,12 +40,3 @@ files-front heading bytes (info ∷ infos) k (suc f) page lt =
           ∙ ap (λ (t : List ℕ). t ++ r.0) (sym (append_assoc first some last))
           ∙ ap (λ (n : ℕ). ((first ++ some) ++ file_section heading n (info_at infos f) (take (4096 * page) (bytes n))) ++ r.0) same,
     )
-
-sections-front : (heading : Heading) (infos : List FileInfo) (bytes : ℕ → List ℕ) (file page : ℕ) → file < length infos
-    → (rest : List ℕ) × (file_sections heading infos bytes ≡ sections_before heading infos bytes file page ++ rest)
-sections-front heading infos bytes file page lt =
-    let r = files-front heading bytes infos 0 file page lt in
-    let same : 0 + file ≡ file = omega arith in (
-      r.0,
-      r.1 ∙ ap (λ (n : ℕ). (file_sections heading (take file infos) bytes ++ file_section heading n (info_at infos file) (take (4096 * page) (bytes n))) ++ r.0) same,
-    )

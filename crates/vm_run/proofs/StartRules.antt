@@ -1,16 +1,16 @@
 -- What the set-up rules say of the amounts and the disks that a kernel is started with.
-use Rattle.volume_files.proofs.MountSpecs.{numbered_is as numbered-so}
+use Rattle.volume_files.proofs.MountSpecs.{volume_is as numbered-so}
 use Rattle.vm_core.proofs.vm_world.ComingParts.{sum-split as sum-both}
 use Rattle.volume_files.proofs.flat_model.Gap.{test_none as kept}
 use Rattle.std.proofs.Common.{◌≡◌, ℕ, zero, suc, ◌+◌, ◌<◌, ◌≤◌, ◌==◌, Bool, true, false, cond, List, [], ◌∷◌, length, map, Option, Some, None, refl, sym, ap}
 use Rattle.std.proofs.Common.{◌∙◌, inl, inr, subst, arith, zero-add}
-use Rattle.std.specs.Prelude.{not, nat_lt, slice_index, filter_map, option_and_then, count_by, sum_by}
+use Rattle.std.specs.Prelude.{not, nat_lt, slice_index, filter_map, option_and_then, option_map, count_by, sum_by, if◌then◌else◌}
 use Rattle.std.specs.List.{cons_option, find, list_any, range_with_len}
 use Rattle.std.proofs.lemmas.Bool.{cases_eq, eq-eqb, ne_eqb}
 use Rattle.std.proofs.lemmas.Bool.Decides.{nat_tests}
 use Rattle.std.proofs.lemmas.List.Sums.{sum_by-cons}
-use Rattle.volume_files.specs.block_device.RackSeen.{spec_number}
 use Rattle.volume_files.specs.block_device.declared.rack.Spec.{Spec}
+use Rattle.volume_files.specs.volume_disks.declared.volume_spec.VolumeSpec.{VolumeSpec}
 use Rattle.vm_core.specs.page_store.Bays.{AreNumbers}
 use Rattle.volume_files.specs.vm_script.declared.plan.SetupAct.{SetupAct}
 use Rattle.volume_files.specs.vm_script.declared.plan.SetupAct.TheVariants as given
@@ -18,7 +18,7 @@ use Rattle.volume_files.specs.vm_script.declared.plan.SetupLine.{SetupLine}
 use Rattle.volume_files.specs.vm_script.Counts.{entry_count}
 use Rattle.volume_files.specs.vm_script.PlanSeen.{PlanSeen}
 use Rattle.volume_files.specs.vm_script.Rules.{amounts_of, gives_a_disk, gives_disk, disk_line_count, is_from_to, has_wrong_frames, has_wrong_disk, lacks_disk, is_wrong_file, broken_rule}
-use Rattle.volume_files.specs.Opened.{given_disk, disk_numbered, disk_specs}
+use Rattle.volume_files.specs.Opened.{given_disk, disk_numbered, is_second, second_numbered, setup_volumes, volume_number, volume_numbered, with_second}
 
 within : (low high n : ℕ) → not (is_from_to low high n) ≡ false → (low ≤ n) × (n ≤ high)
 within low high n is = (grind (arith, nat_tests), grind (arith, nat_tests))
@@ -125,9 +125,21 @@ given-lines (l ∷ setup) a n =
     let all = sum_by-cons (λ (k : SetupLine). cond (gives_a_disk k.act) 1 0) l setup in
     omega (arith, each, both, head, rest, all)
 
-pub few-disks : (setup : List SetupLine) → length (disk_specs setup) ≤ count_by (λ (l : SetupLine). gives_a_disk l.act) setup
+-- a volume stands for a disk that a line gives
+volume-once : (setup : List SetupLine) (n : ℕ) → one_of (volume_numbered setup n) ≤ lines_giving setup n
+volume-once setup n =
+    let one = given-once setup n in
+    let most = at (list_any (λ (l : SetupLine). is_second n l.act) setup) (disk_numbered setup n) in
+    omega (arith, one, most)
+  where
+    at : (b : Bool) (o : Option Spec) → one_of (if b then None else option_map (with_second (second_numbered setup n)) o) ≤ one_of o
+    at true o = omega arith
+    at false None = omega arith
+    at false (Some s) = omega arith
+
+pub few-disks : (setup : List SetupLine) → length (setup_volumes setup) ≤ count_by (λ (l : SetupLine). gives_a_disk l.act) setup
 few-disks setup =
-    let a = length-given (disk_numbered setup) (lines_giving setup) (given-once setup) (range_with_len 0 8) in
+    let a = length-given (volume_numbered setup) (lines_giving setup) (volume-once setup) (range_with_len 0 8) in
     let b = given-lines setup 0 8 in
     omega (arith, a, b)
 
@@ -140,16 +152,16 @@ rise-less : (low high : ℕ) (xs : List ℕ) → low ≤ high → Rise high xs �
 rise-less low high [] le up = tt
 rise-less low high (x ∷ xs) le up = let a = up.0 in (omega (arith, le, a), up.1, up.2)
 
-numbers-rise : (setup : List SetupLine) (a n : ℕ) → a + n ≤ 8 → Rise a (map spec_number (filter_map (disk_numbered setup) (range_with_len a n)))
+numbers-rise : (setup : List SetupLine) (a n : ℕ) → a + n ≤ 8 → Rise a (map volume_number (filter_map (volume_numbered setup) (range_with_len a n)))
 numbers-rise setup a zero low = tt
-numbers-rise setup a (suc n) low = by_option (disk_numbered setup a) refl (numbers-rise setup (a + 1) n (omega (arith, low)))
+numbers-rise setup a (suc n) low = by_option (volume_numbered setup a) refl (numbers-rise setup (a + 1) n (omega (arith, low)))
   where
-    by_option : (o : Option Spec) → disk_numbered setup a ≡ o → Rise (a + 1) (map spec_number (filter_map (disk_numbered setup) (range_with_len (a + 1) n)))
-        → Rise a (map spec_number (cons_option o (filter_map (disk_numbered setup) (range_with_len (a + 1) n))))
-    by_option None e rest = rise-less a (a + 1) (map spec_number (filter_map (disk_numbered setup) (range_with_len (a + 1) n))) (omega arith) rest
+    by_option : (o : Option VolumeSpec) → volume_numbered setup a ≡ o → Rise (a + 1) (map volume_number (filter_map (volume_numbered setup) (range_with_len (a + 1) n)))
+        → Rise a (map volume_number (cons_option o (filter_map (volume_numbered setup) (range_with_len (a + 1) n))))
+    by_option None e rest = rise-less a (a + 1) (map volume_number (filter_map (volume_numbered setup) (range_with_len (a + 1) n))) (omega arith) rest
     by_option (Some s) e rest =
         let same = numbered-so setup a s e in
-        (omega (arith, same), omega (arith, same, low), subst (λ (k : ℕ). Rise (k + 1) (map spec_number (filter_map (disk_numbered setup) (range_with_len (a + 1) n)))) (sym same) rest)
+        (omega (arith, same), omega (arith, same, low), subst (λ (k : ℕ). Rise (k + 1) (map volume_number (filter_map (volume_numbered setup) (range_with_len (a + 1) n)))) (sym same) rest)
 
 -- what holds at a place of numbers that rise
 record IsAbove (low : ℕ) (x : ℕ) : Type 0 where
@@ -172,10 +184,10 @@ one-place low (x ∷ xs) zero (suc j) up lt gt same = absurd (let more = (above 
 one-place low (x ∷ xs) (suc i) zero up lt gt same = absurd (let more = (above (x + 1) xs i up.2 (omega (arith, lt))).least in omega (arith, more, same))
 one-place low (x ∷ xs) (suc i) (suc j) up lt gt same = ap suc (one-place (x + 1) xs i j up.2 (omega (arith, lt)) (omega (arith, gt)) same)
 
-pub disk-numbers : (setup : List SetupLine) → AreNumbers (map spec_number (disk_specs setup))
+pub disk-numbers : (setup : List SetupLine) → AreNumbers (map volume_number (setup_volumes setup))
 disk-numbers setup =
     let up = numbers-rise setup 0 8 (omega arith) in
     record {
-      below = λ i lt. (above 0 (map spec_number (disk_specs setup)) i up lt).below;
-      apart = λ i j low high same. one-place 0 (map spec_number (disk_specs setup)) i j up low high same;
+      below = λ i lt. (above 0 (map volume_number (setup_volumes setup)) i up lt).below;
+      apart = λ i j low high same. one-place 0 (map volume_number (setup_volumes setup)) i j up low high same;
     }

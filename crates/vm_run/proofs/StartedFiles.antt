@@ -1,6 +1,6 @@
 -- The files of a run lie on its disks as a kernel asks for them.
-use Rattle.std.proofs.Common.{◌≡◌, ℕ, zero, suc, ◌<◌, ◌≤◌, List, [], ◌∷◌, length, Option, Some, refl, sym, ap, ◌∙◌, subst, arith}
-use Rattle.std.specs.Prelude.{IsSome, slice_get, slice_index_or}
+use Rattle.std.proofs.Common.{◌≡◌, ℕ, ◌<◌, ◌≤◌, List, [], ◌∷◌, length, Option, refl, sym, ap, ◌∙◌, subst, arith}
+use Rattle.std.specs.Prelude.{IsSome, slice_index_or}
 use Rattle.std.specs.FinMap as finite
 use Rattle.std.specs.Ordering.{nat_cmp}
 use Rattle.std.specs.List.{AllByRecursion}
@@ -18,7 +18,7 @@ use Rattle.volume_files.specs.volume_format.Table.{no_entry}
 use Rattle.vm_core.specs.Setup.{FilesOnDisks}
 use Rattle.volume_files.specs.vm_script.PlanSeen.{PlanSeen}
 use Rattle.volume_files.specs.Attached.{AttachedSeen, ArePlaced}
-use Rattle.volume_files.specs.Opened.{OpenedFile, disk_specs, infos_of}
+use Rattle.volume_files.specs.Opened.{OpenedFile, infos_of, setup_volumes}
 use Rattle.volume_files.specs.Placing.{HasOpened}
 use Rattle.volume_files.specs.Written.{disk_sizes}
 use Rattle.volume_files.proofs.DiskLists.{at-map}
@@ -58,7 +58,7 @@ files-lie plan holds files a made p = record {
   all = λ place number disk at. subst (λ (o : Option ℕ). IsSome o) (sym (p.have.sizes place (number, disk) at)) refl;
   small = λ n b is.
       let r = set-disk a.disks n b (ap (λ (t : finite.FinMap nat_cmp ℕ). finite.get t n) (sym p.sizes) ∙ is) in
-      let few = few-blocks holds (disk_specs plan.setup) (disk_sizes a.disks) p.given.tables p.given.read r.0 (n, r.1.size) (at-map (λ (d : ℕ × DiskSeen). (d.0, d.1.size)) a.disks r.0 (n, r.1) r.2) in
+      let few = few-blocks holds (setup_volumes plan.setup) (disk_sizes a.disks) p.given.tables p.given.read r.0 (n, r.1.size) (at-map (λ (d : ℕ × DiskSeen). (d.0, d.1.size)) a.disks r.0 (n, r.1) r.2) in
       omega (arith, few, r.3);
   lie = p.well.on_disks;
   apart = p.well.apart;

@@ -5,7 +5,6 @@ use Rattle.std.specs.Prelude.{slice_index_or, option_map, is_some}
 use Rattle.std.proofs.lemmas.Bool.{ne_eqb}
 use Rattle.std.proofs.lemmas.List.{length-map}
 use Rattle.volume_files.specs.block_device.DiskSeen.{DiskSeen}
-use Rattle.volume_files.specs.block_device.RackSeen.{spec_number}
 use Rattle.volume_files.specs.block_device.declared.numbered.NumberedDisk.{NumberedDisk}
 use Rattle.volume_files.specs.block_device.declared.rack.Spec.{Spec}
 use Rattle.vm_core.specs.page_store.Bays.{BaySeen, home, bay_at, disk_in, disks_in, AreNumbers, numbers_of, pairs_seen}
@@ -23,7 +22,7 @@ use Rattle.volume_files.specs.declared.attaching.Attached.{Attached}
 use Rattle.vm_run.specs.declared.ending.Stop.{Stop}
 use Rattle.volume_files.specs.Attached.{AttachedSeen, ArePlaced, attached_seen, numbered_seen, bare_disks}
 use Rattle.volume_files.specs.Handed.{IsSwapFor}
-use Rattle.volume_files.specs.Opened.{OpenedFile, opening_flat, disk_specs}
+use Rattle.volume_files.specs.Opened.{OpenedFile, opening_flat, setup_volumes, volume_number}
 use Rattle.vm_run.specs.Played.{IsStarted, HasRoomForPlan}
 use Rattle.volume_files.specs.Written.{LieWell, HaveDisks}
 use Rattle.vm_run.proofs.StartRules.{right-amounts, few-disks, disk-numbers}
@@ -76,7 +75,7 @@ module _ (plan : PlanSeen) (holds : Spec → Option (List (List ℕ))) (files : 
       let right = right-amounts plan rules in
       let enough = right.frames in
       let few = few-disks plan.setup in
-      let count : length a.disks ≡ length (disk_specs plan.setup) = sym (length-map a.disks (λ (d : ℕ × DiskSeen). d.0)) ∙ ap length p.numbers ∙ length-map (disk_specs plan.setup) spec_number in
+      let count : length a.disks ≡ length (setup_volumes plan.setup) = sym (length-map a.disks (λ (d : ℕ × DiskSeen). d.0)) ∙ ap length p.numbers ∙ length-map (setup_volumes plan.setup) volume_number in
       let swap = by_swap a.swap p.handed.first in
       omega (arith, enough, few, count, swap)
     where

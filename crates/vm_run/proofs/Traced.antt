@@ -12,6 +12,7 @@ use Rattle.volume_files.specs.block_device.OpenSeen.{OpenFaultSeen}
 use Rattle.volume_files.specs.block_device.StreamSeen.{SinkSeen}
 use Rattle.volume_files.specs.block_device.declared.numbered.NumberedDisk.{NumberedDisk}
 use Rattle.volume_files.specs.block_device.declared.rack.Spec.{Spec}
+use Rattle.volume_files.specs.volume_disks.declared.volume_spec.VolumeSpec.{VolumeSpec}
 use Rattle.volume_files.proofs.flat_model.Bytes.{All-slice_get}
 use Rattle.vm_core.specs.Finish.{HistorySeen}
 use Rattle.volume_files.specs.vm_script.PlanSeen.{PlanSeen}
@@ -32,7 +33,7 @@ use Rattle.volume_files.specs.Closed.{StoreFiles, info_at}
 use Rattle.vm_run.specs.Course.{AreReadBytes, TraceStops, opening_stop}
 use Rattle.vm_run.specs.Ended.{End, stop_end}
 use Rattle.volume_files.specs.Handed.{AreUncounted, HandsAll, HasDiskCause, HasSpecSize, HaveSpecSizes, HaveTold, IsCountedBy, volumes_of, sizes_of, AreWrittenAt, IsSwapAsGiven, block_told}
-use Rattle.volume_files.specs.Opened.{OpenedFile, opened_bytes_at, disk_specs, infos_of, numbered_plan, stored_bytes, line_files_of}
+use Rattle.volume_files.specs.Opened.{OpenedFile, opened_bytes_at, infos_of, line_files_of, numbered_plan, setup_volumes, stored_bytes}
 use Rattle.volume_files.specs.Written.{infos_made}
 use Rattle.vm_run.specs.Run.{AreOpenedBytes, CaseOf, IsOpened, Outside, opening_part, wrote_before}
 use Rattle.volume_files.specs.Texts.{IsPageUnread, Wrote, WroteFront, WrotePart, file_sections, sections_before, trace_front}
@@ -72,7 +73,7 @@ first-read old new r h i disk at =
     let m = mate new old (sym r.numbers) i disk at in
     subst (λ (n : ℕ). 0 < n) (sym (r.each i m.0 disk m.1 at).size) (h i m.0 m.1)
 
-specs-read : (specs : List Spec) (old new : List (ℕ × DiskSeen)) → AreOnlyRead old new → HaveSpecSizes specs (bare_disks old) → HaveSpecSizes specs (bare_disks new)
+specs-read : (specs : List VolumeSpec) (old new : List (ℕ × DiskSeen)) → AreOnlyRead old new → HaveSpecSizes specs (bare_disks old) → HaveSpecSizes specs (bare_disks new)
 specs-read specs old new r h = (
   length-map new (λ (p : ℕ × DiskSeen). p.1) ∙ r.count ∙ sym (length-map old (λ (p : ℕ × DiskSeen). p.1)) ∙ h.0,
   λ i s d si di.
@@ -82,7 +83,7 @@ specs-read specs old new r h = (
 )
 
 hands-read : (plan : PlanSeen) (old new : List (ℕ × DiskSeen)) (swap : Option DiskSeen) → AreOnlyRead old new → HandsAll plan (bare_disks old) swap → HandsAll plan (bare_disks new) swap
-hands-read plan old new swap r h = record { each = specs-read (disk_specs plan.setup) old new r h.each; first = h.first }
+hands-read plan old new swap r h = record { each = specs-read (setup_volumes plan.setup) old new r h.each; first = h.first }
 
 -- disks that were read were written where they were
 written-read : (plan : PlanSeen) (holds : Spec → Option (List (List ℕ))) (lines : List OpenedFile) (old new : List (ℕ × DiskSeen)) (swap swap2 : Option DiskSeen) → AreOnlyRead old new → swap2 ≡ swap
@@ -313,7 +314,6 @@ module _ (st : ℕ) (ft : Option RunFault) (g : Given) (o : Outside) (what : Ask
   traced-stop ending.Whole none t = absurd t
   traced-stop ending.Usage none t = absurd t
   traced-stop (ending.NoScript f) none t = absurd t
-  traced-stop ending.Later none t = absurd t
   traced-stop (ending.Refused x) none t = absurd t
   traced-stop ending.NotRead none t = absurd t
   traced-stop ending.Sink none t = absurd t

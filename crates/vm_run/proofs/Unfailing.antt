@@ -21,7 +21,6 @@ said-anyway T (Err ending.NotRead) p = tt
 said-anyway T (Err ending.Whole) p = p
 said-anyway T (Err ending.Usage) p = p
 said-anyway T (Err (ending.NoScript x)) p = p
-said-anyway T (Err ending.Later) p = p
 said-anyway T (Err (ending.Refused x)) p = p
 said-anyway T (Err ending.OpeningSink) p = p
 said-anyway T (Err ending.Sink) p = p

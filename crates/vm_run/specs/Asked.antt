@@ -1,6 +1,5 @@
 -- What a run is asked to do, by its words and by the script or the number of a generated one. Public clauses cite this.
 use Rattle.std.specs.Prelude.{ℕ, Bool, true, false, List, ◌≡◌, ◌⊎◌, Option, Some, None, IfSome, option_map, Result, Ok, Err, if◌then◌else◌}
-use Rattle.std.specs.List.{list_any}
 use Rattle.volume_files.specs.block_device.Counts.{HasRisen}
 use Rattle.volume_files.specs.block_device.RackSeen.{RackSeen}
 use Rattle.volume_files.specs.block_device.StreamSeen.{SourceSeen}
@@ -9,7 +8,7 @@ use Rattle.volume_files.specs.vm_script.declared.fault.ScriptFault.{ScriptFault}
 use Rattle.volume_files.specs.vm_script.Generated.{generated_text}
 use Rattle.volume_files.specs.vm_script.PlanSeen.{PlanSeen}
 use Rattle.volume_files.specs.vm_script.Plans.{plan_of}
-use Rattle.volume_files.specs.vm_script.Rules.{broken_rule, is_join}
+use Rattle.volume_files.specs.vm_script.Rules.{broken_rule}
 use Rattle.volume_files.specs.declared.stops.Refusal.TheVariants as refusal
 use Rattle.vm_run.specs.declared.ending.Ending.{Ending}
 use Rattle.vm_run.specs.declared.ending.Ending.TheVariants as ending
@@ -31,17 +30,13 @@ pub record Asked : Type 0 where
   pub options : Options
   pub plan : PlanSeen
 
--- The script joins disks, which isn't served yet.
-abbrev pub is_later : PlanSeen → Bool
-is_later plan = list_any (λ l. is_join l.act) plan.setup
-
 -- The plan may be run, as far as it alone tells; or the rule that it breaks.
 abbrev pub by_rules : Options → PlanSeen → Option ℕ → Result Asked Ending
 by_rules o plan None = Ok (record { options = o; plan = plan })
 by_rules o plan (Some rule) = Err (ending.Refused (refusal.Rule rule))
 
 abbrev pub by_plan : Options → PlanSeen → Result Asked Ending
-by_plan o plan = if is_later plan then Err ending.Later else by_rules o plan (broken_rule plan)
+by_plan o plan = by_rules o plan (broken_rule plan)
 
 abbrev pub by_script : Options → Result PlanSeen ScriptFault → Result Asked Ending
 by_script o (Ok plan) = by_plan o plan

@@ -63,7 +63,6 @@ pub record IsReadPlan (plan : PlanSeen) : Type 0 where
 abbrev pub AskStops : Given → ℕ → ℕ → Ending → Type 0
 AskStops g old new ending.Usage = WasAsked g (Err ending.Usage)
 AskStops g old new (ending.NoScript f) = WasAsked g (Err (ending.NoScript f))
-AskStops g old new ending.Later = WasAsked g (Err ending.Later)
 AskStops g old new (ending.Refused r) = WasAsked g (Err (ending.Refused r))
 AskStops g old new ending.NotRead = FailsToRead g old new
 AskStops g old new ending.Memory = Unit {0}

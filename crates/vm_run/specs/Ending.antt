@@ -34,7 +34,6 @@ abbrev pub status_of : Ending → ℕ
 status_of ending.Whole = 0
 status_of ending.Usage = 2
 status_of (ending.NoScript f) = 3
-status_of ending.Later = 3
 status_of (ending.Refused r) = 4
 status_of ending.NotRead = 5
 status_of ending.OpeningSink = 6
@@ -58,10 +57,6 @@ answer_text (answer.Verdict (verdict.First k)) = codes "trace: entry " ++ decima
 answer_text (answer.Fault f) = codes "trace: line " ++ decimal f.line ++ 10 ∷ []
 answer_text answer.Long = codes "trace: long" ++ 10 ∷ []
 
--- The script joins disks, or has a line whose call isn't served yet.
-abbrev pub later_text : List ℕ
-later_text = codes "script: later" ++ 10 ∷ []
-
 abbrev pub refusal_line : Refusal → List ℕ
 refusal_line (refusal.Rule n) = setup_fault_text n
 refusal_line (refusal.Volume disk rule) = volume_fault_text disk rule
@@ -78,7 +73,6 @@ opening_fault_line f = elim f.counts [
 abbrev pub last_line_of : Ending → List ℕ
 last_line_of ending.Usage = usage_text
 last_line_of (ending.NoScript f) = script_fault_text f
-last_line_of ending.Later = later_text
 last_line_of (ending.Refused r) = refusal_line r
 last_line_of ending.NotRead = read_fault_text
 last_line_of (ending.Opening f) = opening_fault_line f

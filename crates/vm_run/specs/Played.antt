@@ -25,7 +25,6 @@ use Rattle.vm_core.specs.vm_world.State.{KernelState, room_of, mode_of}
 use Rattle.vm_core.specs.vm_world.StateFits.{StateFits}
 use Rattle.volume_files.specs.vm_script.Sound.{IsSoundPlan}
 use Rattle.vm_kernel.specs.declared.starting.Room.{Room}
-use Rattle.vm_run.specs.Asked.{is_later}
 use Rattle.volume_files.specs.Attached.{bare_disks}
 use Rattle.volume_files.specs.Closed.{StoreFiles, infos_in_flat, flat_bytes}
 use Rattle.volume_files.specs.Handed.{HaveTold}
@@ -129,7 +128,6 @@ pub record KernelLeaves (F : Flat) (s : KernelState) (l : LeftSeen) : Type 0 whe
   pub swap : SwapCameBack (bay_at s.memory.world.store.bays 8) l.swap
   pub tells : HaveTold (bare_disks l.disks) l.swap → AllTell s.memory.world no_notes
 
--- A plan whose lines the kernel can make: it joins no disks, and each of its lines is sound, in blocks that nest.
+-- A plan whose lines the kernel can make: each of them is sound, in blocks that nest.
 pub record IsPlayable (plan : PlanSeen) : Type 0 where
-  pub now : is_later plan ≡ false
   pub sound : IsSoundPlan plan

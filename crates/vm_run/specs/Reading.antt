@@ -63,11 +63,10 @@ ScriptStops make rest old new ending.NotRead = HasRisen old new × (make ≡ Non
 ScriptStops make rest old new ending.Memory = Unit {0}
 ScriptStops make rest old new how = ⊥
 
--- A plan that was read is taken, or not: it waits for later, or breaks a rule.
+-- A plan that was read is taken, or it breaks a rule.
 abbrev pub TakesPlan : Options → PlanSeen → Result Request Ending → Type 0
 TakesPlan o plan (Ok (request.Run options read)) = (by_plan o plan ≡ Ok (record { options = options; plan = read })) × IsReadPlan read
 TakesPlan o plan (Ok (request.Check a)) = ⊥
-TakesPlan o plan (Err ending.Later) = by_plan o plan ≡ Err ending.Later
 TakesPlan o plan (Err (ending.Refused r)) = by_plan o plan ≡ Err (ending.Refused r)
 TakesPlan o plan (Err how) = ⊥
 

@@ -327,7 +327,6 @@ abbrev pub CaseOf : Given → Outside → Writing → End → Ending → Type 0
 CaseOf g o W e ending.Whole = EndsWhole g o e
 CaseOf g o W e ending.Usage = WasAsked g (Err ending.Usage) × EndsBare W ending.Usage e
 CaseOf g o W e (ending.NoScript f) = WasAsked g (Err (ending.NoScript f)) × EndsBare W (ending.NoScript f) e
-CaseOf g o W e ending.Later = WasAsked g (Err ending.Later) × EndsBare W ending.Later e
 CaseOf g o W e (ending.Refused r) = (WasAsked g (Err (ending.Refused r)) × EndsBare W (ending.Refused r) e) ⊎ BreaksRule g W r e
 CaseOf g o W e ending.NotRead = FailsToRead g o.source_old o.source_new × EndsBare W ending.NotRead e
 CaseOf g o W e ending.OpeningSink = StopsInTrace g o e

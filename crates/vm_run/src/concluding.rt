@@ -38,7 +38,6 @@ fn push_line(ending: &Ending, text: &mut Vec<u8>) -> Result<(), AllocError>
     match ending {
         Ending::Usage => text.extend_from_slice(usage()),
         Ending::NoScript(fault) => script_fault(fault, text),
-        Ending::Later => text.extend_from_slice(b"script: later\n"),
         Ending::Refused(refusal) => push_refusal(*refusal, text),
         Ending::NotRead => text.extend_from_slice(read_fault()),
         Ending::Opening(fault) => push_opening_fault(fault, text),

@@ -36,8 +36,6 @@ pub enum Ending {
     Usage,
     /// The script isn't in the grammar.
     NoScript(ScriptFault),
-    /// The script joins disks, or has a line whose call isn't served yet.
-    Later,
     /// A set-up rule is broken.
     Refused(Refusal),
     /// The source failed.
@@ -88,7 +86,7 @@ impl Ending {
         match self {
             Ending::Whole => 0,
             Ending::Usage => 2,
-            Ending::NoScript(_) | Ending::Later => 3,
+            Ending::NoScript(_) => 3,
             Ending::Refused(_) => 4,
             Ending::NotRead => 5,
             Ending::OpeningSink | Ending::Sink => 6,

@@ -19,3 +19,4 @@ mod starting;
 
 pub use outcome::{Outcome, RunFault};
 pub use running::run;
+pub use volume_files::JoinedDisk;

@@ -1,10 +1,8 @@
 //! What is asked is read.
 ghost use Rattle.std.specs.Prelude.{List, Option, ℕ, None, ◌≡◌, ◌≤◌, IfErr, IfOk, IfSome, Ok, map, string_bytes};
-ghost use Rattle.std.specs.List.{list_all, list_any};
+ghost use Rattle.std.specs.List.{list_all};
 ghost use Rattle.volume_files.specs.block_device.declared.rack.Spec.{Spec};
 ghost use Rattle.volume_files.specs.vm_script.Plans.{plan_of};
-ghost use Rattle.volume_files.specs.vm_script.Rules.{is_join};
-ghost use Rattle.vm_run.specs.Asked as asked;
 ghost use Rattle.vm_run.specs.Course.{AskEnds};
 ghost use Rattle.vm_run.specs.Lines as alone;
 ghost use Rattle.vm_run.specs.Reading.{IsAnswer, IsSpelled, SaysScript, ScriptStops, SourceStops, TakesPlan, TextStops, UnlessUnread};
@@ -14,8 +12,8 @@ use crate::ending::{Ending, TraceAnswer};
 use command_line::{Options, read_options};
 use std::alloc::Global;
 use volume_files::{
-    Call, MOST_BYTES, Plan, PlanAct, PlanLine, ReadFault, Refusal, SetupAct, SetupLine, Source,
-    broken_rule, generate, parse, read_to_limit, sound_law,
+    Call, MOST_BYTES, Plan, PlanAct, PlanLine, ReadFault, Refusal, Source, broken_rule, generate,
+    parse, read_to_limit, sound_law,
 };
 
 /// What the words ask for, once the source was read: a run, or the answer to a trace.
@@ -23,19 +21,6 @@ use volume_files::{
 pub enum Request {
     Run(Options, Plan),
     Check(TraceAnswer),
-}
-
-fn joins_disks(setup: &[SetupLine]) -> bool
-    ensures { result ≡ list_any (λ l. is_join l.act) setup.now }
-{
-    setup.iter().any(|l| matches!(l.act, SetupAct::Join { .. }))
-}
-
-// The script joins disks, which isn't served yet.
-fn is_later(plan: &Plan) -> bool
-    ensures { result ≡ asked.is_later plan.now }
-{
-    joins_disks(plan.setup())
 }
 
 fn is_plain_act(act: &PlanAct) -> bool
@@ -130,9 +115,6 @@ fn take_plan(options: Options, plan: Plan) -> Result<Request, Ending>
     requires { IsSpelled plan }
     ensures { TakesPlan options plan result }
 {
-    if is_later(&plan) {
-        return Err(Ending::Later);
-    }
     match broken_rule(&plan) {
         Some(rule) => Err(Ending::Refused(Refusal::Rule(rule))),
         None => {

@@ -1,6 +1,7 @@
 //! The top call.
 ghost use Rattle.std.specs.Prelude.{ℕ, ◌≡◌, ◌≤◌, ◌+◌, List, map, option_map, string_bytes};
 ghost use Rattle.volume_files.specs.block_device.StreamSeen.{SinkSeen};
+ghost use Rattle.volume_files.specs.joined_disk.JoinedSeen.{joined_seen};
 ghost use Rattle.vm_run.specs.Asked.{Given, Asked, given_of};
 ghost use Rattle.volume_files.specs.Attached.{HasRooms, attached_seen, bare_disks};
 ghost use Rattle.vm_run.specs.Course.{HasCase, IsReady};
@@ -22,7 +23,7 @@ use std::alloc::Global;
 use std::sync::Wait;
 use std::thread::Threads;
 use trace_check::one_answer_law;
-use volume_files::{Disk, Rack, Sink, Source};
+use volume_files::{Disk, JoinedDisk, Rack, Sink, Source};
 
 /// Runs a script: its disks are attached, its files placed, its processes run, its files closed, and its report written.
 pub fn run<T: Threads + Wait + Sync, S: Source, K: Sink, R: Rack>(
@@ -32,25 +33,25 @@ pub fn run<T: Threads + Wait + Sync, S: Source, K: Sink, R: Rack>(
     script: &mut S,
     out: &mut K,
     rack: &mut R,
-) -> Outcome<R::D>
+) -> Outcome<JoinedDisk<R::D>>
     // THE HEADLINE.
     ensures ends { RunEnds
         (given_of (map string_bytes words.now) (S.seen script.old) (R.seen rack.old))
         (outside_of (S.seen script.old) (S.seen script.new)
         (R.seen rack.old) (R.seen rack.new) (K.seen out.old) (K.seen out.new))
-        (end_of R.D.seen result) }
+        (end_of (joined_seen R.D.seen) result) }
     // Nothing failed: the whole report, or want of memory.
     ensures complete { IsComplete
         (given_of (map string_bytes words.now) (S.seen script.old) (R.seen rack.old))
         (outside_of (S.seen script.old) (S.seen script.new)
         (R.seen rack.old) (R.seen rack.new) (K.seen out.old) (K.seen out.new))
-        (end_of R.D.seen result) }
+        (end_of (joined_seen R.D.seen) result) }
     // With a trace and status 0, over disks that tell: it is one that a check answers as legal.
     ensures traced { PrintsLegalTrace
         (given_of (map string_bytes words.now) (S.seen script.old) (R.seen rack.old))
         (outside_of (S.seen script.old) (S.seen script.new)
         (R.seen rack.old) (R.seen rack.new) (K.seen out.old) (K.seen out.new))
-        (end_of R.D.seen result) }
+        (end_of (joined_seen R.D.seen) result) }
 {
     one_answer_law();
     let stop = course(rt, alloc, words, script, out, rack);
@@ -65,18 +66,19 @@ fn course<T: Threads + Wait + Sync, S: Source, K: Sink, R: Rack>(
     script: &mut S,
     out: &mut K,
     rack: &mut R,
-) -> Stop<R::D>
+) -> Stop<JoinedDisk<R::D>>
     ensures ends { HasCase
         (given_of (map string_bytes words.now) (S.seen script.old) (R.seen rack.old))
         (outside_of (S.seen script.old) (S.seen script.new)
         (R.seen rack.old) (R.seen rack.new) (K.seen out.old) (K.seen out.new))
-        R.D.seen result }
+        (joined_seen R.D.seen) result }
     // Want of memory hides no failure.
     ensures hides { result.ending ≡ Memory → NoneFailed
         (outside_of (S.seen script.old) (S.seen script.new)
         (R.seen rack.old) (R.seen rack.new) (K.seen out.old) (K.seen out.new)) }
     ensures back { (R.seen rack.new).attached ≡ (R.seen rack.old).attached
-        + member_count (map R.D.seen result.disks.items) (option_map R.D.seen result.swap) }
+        + member_count (map (joined_seen R.D.seen) result.disks.items)
+        (option_map (joined_seen R.D.seen) result.swap) }
     ensures sink { (K.seen out.old).faults ≤ (K.seen out.new).faults }
 {
     match make_ready(alloc, words, script, out, rack) {

@@ -7,12 +7,13 @@ use Rattle.std.specs.Ordering.{nat_cmp}
 use Rattle.std.specs.FinMap as finite
 use Rattle.std.specs.Cmp.{nat_cmp_total, unsigned_tied}
 use Rattle.std.proofs.Common.{ap, ◌∙◌, sym, subst, refl, arith, inl, inr, cond}
-use Rattle.std.proofs.lemmas.Bool.{cases_eq, eq-eqb, ne_eqb, both_ways}
+use Rattle.std.proofs.lemmas.Bool.{cases_eq, eq-eqb, false≢true, ne_eqb, both_ways}
 use Rattle.std.proofs.lemmas.List.{length-map, get_or-map, append_cancel_left, append-nil}
 use Rattle.std.proofs.lemmas.List.Elements.{recursion_from_All, All-from_recursion}
 use Rattle.block_device.specs.DiskSeen.{DiskSeen, HasBlocks}
 use Rattle.block_device.specs.declared.numbered.NumberedDisk.{NumberedDisk}
 use Rattle.block_device.specs.declared.rack.Spec.{Spec}
+use Rattle.volume_disks.specs.declared.volume_spec.VolumeSpec.{VolumeSpec}
 use Rattle.volume_format.specs.vnode_files.declared.vnode.FileInfo.{FileInfo}
 use Rattle.volume_format.specs.vnode_files.Grow.{page_count}
 use Rattle.volume_format.specs.vnode_files.Files.{FilesSeen, block_count}
@@ -26,8 +27,8 @@ use Rattle.vm_report.specs.vm_script.Sound.{IsSoundSetup}
 use Rattle.volume_files.specs.declared.stops.Refusal.TheVariants as refusal
 use Rattle.volume_files.specs.Attached.{AreMounted, ArePlaced, FileDisksTell, HasItsBytes, numbered_seen, bare_disks}
 use Rattle.volume_files.specs.Closed.{StoreFiles, info_at}
-use Rattle.volume_files.specs.Handed.{HandsAll, IsSwapAsGiven, IsSwapFor, SpareBlock, TellsSpec}
-use Rattle.volume_files.specs.Opened.{OpenedFile, infos_of, opened_bytes_at, disk_specs, if_few, with_line_files, stored_bytes}
+use Rattle.volume_files.specs.Handed.{HandsAll, IsSwapAsGiven, IsSwapFor, SpareBlock}
+use Rattle.volume_files.specs.Opened.{OpenedFile, infos_of, opened_bytes_at, AreAlike, TellsDisks, TellsVolume, setup_volumes, if_few, with_line_files, stored_bytes}
 use Rattle.volume_files.specs.Placing.{KeepThere, Distinct, PlacesFiles, RemainThere, WroteEach, attached_numbers, found_file, found_files}
 use Rattle.volume_files.specs.Placing.{line_files, sizes_by_number, with_file, with_file_pages, filled_pages}
 use Rattle.volume_files.specs.Written.{disk_sizes, HaveFirstBlocks}
@@ -138,14 +139,29 @@ told-before : (n : ℕ) (old new : Option (List (List ℕ))) (files : List Opene
 told-before n None new files is some = absurd (both_ways false refl (ap is_some (sym (is ∙ untold-pages n files)) ∙ some))
 told-before n (Some blocks) new files is some = refl
 
+-- disks that tell told before they were written
+pub told-one : (a b : Option (List (List ℕ))) → (a ≡ None → b ≡ None) → IsSome b → IsSome a
+told-one None b keeps some = absurd (false≢true (ap is_some (sym (keeps refl)) ∙ some))
+told-one (Some x) b keeps some = refl
+
+-- What the rack tells of the volumes, in its two parts.
+disks-tell : (holds : Spec → Option (List (List ℕ))) (specs : List VolumeSpec) → AllByRecursion (TellsVolume holds) specs → AllByRecursion (TellsDisks holds) specs
+disks-tell holds [] all = tt
+disks-tell holds (s ∷ specs) all = (all.0.0, disks-tell holds specs all.1)
+
+are-alike : (holds : Spec → Option (List (List ℕ))) (specs : List VolumeSpec) → AllByRecursion (TellsVolume holds) specs → AllByRecursion AreAlike specs
+are-alike holds [] all = tt
+are-alike holds (s ∷ specs) all = (all.0.1, are-alike holds specs all.1)
+
 -- Each disk on which one of the files lies told before.
-tell_or_empty : (T : ℕ → Type 0) (ds : List (ℕ × DiskSeen)) (ts : List TableSeen) → AllByRecursion (λ (d : ℕ × DiskSeen). T d.0 → IsSome d.1.content) ds
-    → AllByRecursion (λ (f : OpenedFile). T f.info.disk) (found_files ds ts) → TellOrEmpty ds ts
-tell_or_empty T [] ts back all = tt
-tell_or_empty T (d ∷ ds) [] back all = tt
-tell_or_empty T (d ∷ ds) (t ∷ ts) back all = (
-  λ e es is. back.0 (subst (λ (xs : List FileInfo). AllByRecursion (λ (f : OpenedFile). T f.info.disk) (map (found_file d) xs ++ found_files ds ts)) is all).0,
-  tell_or_empty T ds ts back.1 (behind (map (found_file d) t.entries) all),
+tell_or_empty : (T : ℕ → Type 0) (specs : List VolumeSpec) (ds : List (ℕ × DiskSeen)) (ts : List TableSeen) → AllByRecursion (λ (d : ℕ × DiskSeen). T d.0 → IsSome d.1.content) ds → AllByRecursion AreAlike specs
+    → AllByRecursion (λ (f : OpenedFile). T f.info.disk) (found_files ds ts) → TellOrEmpty specs ds ts
+tell_or_empty T [] ds ts back alike all = tt
+tell_or_empty T (s ∷ specs) [] ts back alike all = tt
+tell_or_empty T (s ∷ specs) (d ∷ ds) [] back alike all = tt
+tell_or_empty T (s ∷ specs) (d ∷ ds) (t ∷ ts) back alike all = (
+  ((λ e es is. back.0 (subst (λ (xs : List FileInfo). AllByRecursion (λ (f : OpenedFile). T f.info.disk) (map (found_file d) xs ++ found_files ds ts)) is all).0), (λ none. alike.0)),
+  tell_or_empty T specs ds ts back.1 alike.1 (behind (map (found_file d) t.entries) all),
 )
   where
     behind : (xs : List OpenedFile) → AllByRecursion (λ (f : OpenedFile). T f.info.disk) (xs ++ found_files ds ts) → AllByRecursion (λ (f : OpenedFile). T f.info.disk) (found_files ds ts)
@@ -163,20 +179,20 @@ all_places P [] h = tt
 all_places P (x ∷ xs) h = (h 0 x (omega arith) refl, all_places P xs (λ k y below is. h (suc k) y (omega (arith, below)) is))
 
 distinct-of : {D : Type 0} (seen : D → DiskSeen) (plan : PlanSeen) (holds : Spec → Option (List (List ℕ))) (old : List (NumberedDisk D)) (ts : List TableSeen)
-    → AreMounted holds (disk_specs plan.setup) (map (numbered_seen seen) old) ts → Distinct (map (λ (d : ℕ × DiskSeen). d.0) (map (numbered_seen seen) old))
+    → AreMounted holds (setup_volumes plan.setup) (map (numbered_seen seen) old) ts → Distinct (map (λ (d : ℕ × DiskSeen). d.0) (map (numbered_seen seen) old))
 distinct-of seen plan holds old ts m =
-    subst Distinct (sym (mounted-numbers holds (disk_specs plan.setup) (map (numbered_seen seen) old) ts m)) (plan-numbers plan).1
+    subst Distinct (sym (mounted-numbers holds (setup_volumes plan.setup) (map (numbered_seen seen) old) ts m)) (plan-numbers plan).1
 
 pub distinct-attached : {D : Type 0} (seen : D → DiskSeen) (plan : PlanSeen) (holds : Spec → Option (List (List ℕ))) (old : List (NumberedDisk D)) (ts : List TableSeen)
-    → AreMounted holds (disk_specs plan.setup) (map (numbered_seen seen) old) ts → Distinct (attached_numbers old)
+    → AreMounted holds (setup_volumes plan.setup) (map (numbered_seen seen) old) ts → Distinct (attached_numbers old)
 distinct-attached seen plan holds old ts m = subst Distinct (numbers-seen seen old) (distinct-of seen plan holds old ts m)
 
 -- all disks are handed back
 pub hands-all : {D : Type 0} (seen : D → DiskSeen) (plan : PlanSeen) (holds : Spec → Option (List (List ℕ))) (old new : List (NumberedDisk D)) (ts : List TableSeen) (swap : Option DiskSeen)
-    → AreMounted holds (disk_specs plan.setup) (map (numbered_seen seen) old) ts → IsSwapFor (amounts_of plan.setup).slots swap → RemainThere seen old new
+    → AreMounted holds (setup_volumes plan.setup) (map (numbered_seen seen) old) ts → IsSwapFor (amounts_of plan.setup).slots swap → RemainThere seen old new
     → HandsAll plan (bare_disks (map (numbered_seen seen) new)) swap
 hands-all seen plan holds old new ts swap m serves remain = record {
-  each = spec-sizes seen holds (disk_specs plan.setup) old new ts m (same-disks seen old new remain);
+  each = spec-sizes seen holds (setup_volumes plan.setup) old new ts m (same-disks seen old new remain);
   first = serves;
 }
 
@@ -261,15 +277,16 @@ name-at infos k all below = at_index (λ (i : FileInfo). IsVolumeName i.name) in
 
 -- where each disk on which a file lies tells, each disk told before or has no files in its table
 told-tables : {D : Type 0} (seen : D → DiskSeen) (old new : List (NumberedDisk D)) (ts : List TableSeen) (after lines : List OpenedFile) → RemainThere seen old new → WroteEach seen lines old new
-    → after ≡ found_files (map (numbered_seen seen) old) ts ++ lines → FileDisksTell (infos_of after) (map (numbered_seen seen) new) → TellOrEmpty (map (numbered_seen seen) old) ts
-told-tables seen old new ts after lines remain wrote are tell =
+    → after ≡ found_files (map (numbered_seen seen) old) ts ++ lines → FileDisksTell (infos_of after) (map (numbered_seen seen) new) → (specs : List VolumeSpec) → AllByRecursion AreAlike specs
+    → TellOrEmpty specs (map (numbered_seen seen) old) ts
+told-tables seen old new ts after lines remain wrote are tell specs alike =
     let es = map (numbered_seen seen) new in
     let T : ℕ → Type 0 = λ n. (i : ℕ) (disk : ℕ × DiskSeen) → slice_get es i ≡ Some disk → n ≡ disk.0 → IsSome disk.1.content in
     let all : AllByRecursion (λ (f : OpenedFile). T f.info.disk) after = all_places (λ (f : OpenedFile). T f.info.disk) after (λ k f below is i disk there on.
     let inside : k < length (infos_of after) = omega (arith, below, length-map after (λ (g : OpenedFile). g.info)) in
     let info : info_at (infos_of after) k ≡ f.info = get_or-map (λ (g : OpenedFile). g.info) after k f no_entry below ∙ ap (λ (g : OpenedFile). g.info) (sym is) in
     tell i k disk there inside (ap (λ (x : FileInfo). x.disk) info ∙ on)) in
-    tell_or_empty T (map (numbered_seen seen) old) ts
+    tell_or_empty T specs (map (numbered_seen seen) old) ts
     (all_mapped (λ (d : ℕ × DiskSeen). T d.0 → IsSome d.1.content) (numbered_seen seen) old (all_places (λ (d : NumberedDisk _). T d.number → IsSome (seen d.disk).content) old (λ k x below is tells.
     let e = slice_index_or new k x in
     let inside : k < length new = omega (arith, below, remain.count) in
@@ -280,6 +297,7 @@ told-tables seen old new ts after lines remain wrote are tell =
     let content : (seen e.disk).content ≡ with_file_pages x.number (seen x.disk).content lines =
     wrote k x below ∙ ap (λ (y : NumberedDisk _). with_file_pages y.number (seen y.disk).content lines) (sym is) in
     told-before x.number (seen x.disk).content (seen e.disk).content lines content (tells k (numbered_seen seen e) at number))))
+    alike
     (all_front (λ (f : OpenedFile). T f.info.disk) (found_files (map (numbered_seen seen) old) ts) lines
     (subst (λ (fs : List OpenedFile). AllByRecursion (λ (f : OpenedFile). T f.info.disk) fs) are all))
 
@@ -288,12 +306,12 @@ pub placed-all : {D : Type 0} (seen : D → DiskSeen) (plan : PlanSeen) (holds :
     (ts : List TableSeen) (swap : Option DiskSeen) (files : FilesSeen)
     → ((d : NumberedDisk D) → HasBlocks (seen d.disk).content (seen d.disk).size)
     → broken_rule plan ≡ None → IsSoundSetup plan.setup
-    → AreMounted holds (disk_specs plan.setup) (map (numbered_seen seen) old) ts → IsSwapFor (amounts_of plan.setup).slots swap → IsSwapAsGiven (amounts_of plan.setup).slots swap
+    → AreMounted holds (setup_volumes plan.setup) (map (numbered_seen seen) old) ts → IsSwapFor (amounts_of plan.setup).slots swap → IsSwapAsGiven (amounts_of plan.setup).slots swap
     → RemainThere seen old new → All IsSoundVnode files.files → length files.files ≤ 64
     → (p : PlacesFiles seen plan.setup old ts new files)
     → ArePlaced plan holds p.opened (record { disks = map (numbered_seen seen) new; tables = ts; swap = swap }) files
 placed-all {D} seen plan holds old new ts swap files has kept sound m serves blank remain sound_files few p =
-    let specs = disk_specs plan.setup in
+    let specs = setup_volumes plan.setup in
     let ds = map (numbered_seen seen) old in
     let es = map (numbered_seen seen) new in
     let found = found_files ds ts in
@@ -342,7 +360,8 @@ placed-all {D} seen plan holds old new ts swap files has kept sound m serves bla
         last = blank;
       };
       told = λ tells disks_tell.
-          opened-is holds plan ds ts m (recursion_from_All (TellsSpec holds) specs tells) blocks (told-tables seen old new ts after lines remain p.wrote are disks_tell)
+          opened-is holds plan ds ts m (disks-tell holds specs (recursion_from_All (TellsVolume holds) specs tells)) blocks
+          (told-tables seen old new ts after lines remain p.wrote are disks_tell specs (are-alike holds specs (recursion_from_All (TellsVolume holds) specs tells)))
           ∙ ap (λ (xs : List (ℕ × ℕ)). with_line_files (block_count (finite.from_entries xs)) (if_few (Ok found)) plan.setup) (sizes-seen seen old) ∙ p.read;
       stored = all-stored seen sizes old new ts plan.setup lines after distinct has counts (holding-lines plan.setup (placeable-lines plan kept sound)) remain read are p.wrote;
     }

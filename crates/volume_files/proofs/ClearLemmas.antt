@@ -1,13 +1,13 @@
 -- Runs of free blocks, by the extents that are in the way.
-use Rattle.std.specs.Prelude.{ℕ, zero, suc, ◌≡◌, ◌<◌, ◌≤◌, ◌+◌, ◌-◌, ◌||◌, ◌&&◌, not, nat_lt, Bool, true, false, List, [], ◌∷◌, Some}
+use Rattle.std.specs.Prelude.{ℕ, zero, suc, ◌≡◌, ◌<◌, ◌≤◌, ◌+◌, ◌-◌, ◌||◌, not, nat_lt, Bool, true, false, List, [], ◌∷◌, Some}
 use Rattle.std.specs.List.{list_any, range_with_len, find}
 use Rattle.std.proofs.Common.{ap, ◌∙◌, refl, arith, inl, inr, cond}
 use Rattle.std.proofs.lemmas.Bool.{both_ways, and_from, lt-ltb, or_cases, cases_Bool, cases_lt}
 use Rattle.volume_format.specs.vnode_files.declared.extent.Extent.{Extent}
-use Rattle.volume_format.specs.vnode_files.Grow.{has_block, is_free, extent_end}
+use Rattle.volume_format.specs.vnode_files.Grow.{has_block, is_free}
 use Rattle.volume_format.specs.Place.{is_in_way}
 use Rattle.volume_format.proofs.PlaceLemmas.{in_way-from, has-block-in_way as in_way-of}
-use Rattle.volume_format.proofs.vnode_files.BlockLemmas.{has_block-bounds, has_block-between}
+use Rattle.volume_format.proofs.vnode_files.BlockLemmas.{has_block-between}
 use Rattle.volume_files.specs.Opened.{is_free_run}
 use Rattle.volume_files.proofs.LineLemmas.{run_from, run-free}
 

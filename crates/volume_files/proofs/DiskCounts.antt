@@ -1,6 +1,6 @@
 -- How many disks there are, those that a disk stands for counted each.
-use Rattle.std.specs.Prelude.{ℕ, ◌≡◌, ◌+◌, List, [], ◌∷◌, ◌++◌, length, map, slice_get, Option, Some, None, option_map}
-use Rattle.std.proofs.Common.{ap, sym, ◌∙◌, refl, zero, suc, arith}
+use Rattle.std.specs.Prelude.{ℕ, ◌≡◌, ◌+◌, List, [], ◌∷◌, ◌++◌, length, map, slice_get, Option, Some, option_map}
+use Rattle.std.proofs.Common.{ap, sym, ◌∙◌, refl, suc, arith}
 use Rattle.std.proofs.lemmas.List.Sums.{sum_by-cons}
 use Rattle.block_device.specs.DiskSeen.{DiskKind, DiskSeen}
 use Rattle.block_device.specs.declared.numbered.NumberedDisk.{NumberedDisk}
@@ -71,11 +71,11 @@ module _ {D : Type 0} (seen : D → DiskSeen) where
       let front = members-more (seen x.disk) (bare_disks (map (numbered_seen seen) ds)) in
       omega (arith, more, all, front)
 
-  pub members-attached : (ds es : List (NumberedDisk D)) (d : NumberedDisk D) (old new : ℕ) → es ≡ ds ++ d ∷ [] → (seen d.disk).kind.members ≡ 1 → new ≡ old + 1
+  pub members-attached : (ds es : List (NumberedDisk D)) (d : NumberedDisk D) (count old new : ℕ) → es ≡ ds ++ d ∷ [] → (seen d.disk).kind.members ≡ count → new ≡ old + count
       → new + members_of (bare_disks (map (numbered_seen seen) ds)) ≡ old + members_of (bare_disks (map (numbered_seen seen) es))
-  members-attached ds es d old new is one counted =
+  members-attached ds es d count old new is many counted =
       let all = ap (λ (xs : List (NumberedDisk D)). members_of (bare_disks (map (numbered_seen seen) xs))) is ∙ members-behind ds d in
-      omega (arith, all, one, counted)
+      omega (arith, all, many, counted)
 
   -- disks as they are handed back
   pub count-handed : (xs : List (NumberedDisk D)) (w : Option (NumberedDisk D)) (ys : List D) (v : Option D) → ys ≡ map (λ (d : NumberedDisk D). d.disk) xs

@@ -1,5 +1,4 @@
 -- Lists of disks whose numbers and sizes stay.
-use Rattle.volume_files.proofs.ShownFiles.{reads_still as reads-refl-one}
 use Rattle.volume_files.proofs.TablesWritten.{keeps_same as blocks-refl}
 use Rattle.std.proofs.Common.{◌≡◌, ℕ, zero, suc, ◌≤◌, ◌<◌, ◌==◌, true, List, [], ◌∷◌, length, map, refl, sym, ap, ◌∙◌, subst, arith, inl, inr}
 use Rattle.std.specs.Prelude.{All, Some, option_map, slice_get, slice_index_or, zip, cond}
@@ -14,9 +13,9 @@ use Rattle.volume_format.specs.vnode_files.Files.{FilesSeen}
 use Rattle.vm_report.specs.vm_script.PlanSeen.{PlanSeen}
 use Rattle.volume_files.specs.Attached.{paired_seen}
 use Rattle.volume_files.specs.Attached.{bare_disks}
-use Rattle.volume_files.specs.Handed.{disk_numbers}
+use Rattle.volume_files.specs.Handed.{volume_numbers}
 use Rattle.volume_files.proofs.HandLemmas.{plan-numbers}
-use Rattle.volume_files.specs.Written.{HaveDisks, HaveFirstBlocks, KeepsBlocks, WriteTables, OnlyReads, AreOnlyRead, disk_sizes}
+use Rattle.volume_files.specs.Written.{HaveDisks, HaveFirstBlocks, KeepsBlocks, WriteTables, AreOnlyRead, disk_sizes}
 
 -- the members of a list and of its image
 pub at-map : {A B : Type 0} (f : A → B) (xs : List A) (i : ℕ) (x : A) → slice_get xs i ≡ Some x → slice_get (map f xs) i ≡ Some (f x)
@@ -123,8 +122,8 @@ lookup-at n (x ∷ disks) (suc i) d own e = elim (eqb_tells x.0 n) [
 ]
 
 -- a plan's disks have numbers below 8
-pub low-disks : (plan : PlanSeen) (disks : List (ℕ × DiskSeen)) → map number disks ≡ disk_numbers plan → (i : ℕ) (d : ℕ × DiskSeen) → slice_get disks i ≡ Some d → d.0 < 8
-low-disks plan disks same i d at = low-number (disk_numbers plan) (plan-numbers plan).0 i d.0 (ap (λ (l : List ℕ). slice_get l i) (sym same) ∙ at-map number disks i d at)
+pub low-disks : (plan : PlanSeen) (disks : List (ℕ × DiskSeen)) → map number disks ≡ volume_numbers plan → (i : ℕ) (d : ℕ × DiskSeen) → slice_get disks i ≡ Some d → d.0 < 8
+low-disks plan disks same i d at = low-number (volume_numbers plan) (plan-numbers plan).0 i d.0 (ap (λ (l : List ℕ). slice_get l i) (sym same) ∙ at-map number disks i d at)
 
 -- the disks without their numbers
 pub seen-bare_disks : {D : Type 0} (seen : D → DiskSeen) (xs : List (ℕ × D)) → map seen (map (λ (d : ℕ × D). d.1) xs) ≡ bare_disks (paired_seen seen xs)

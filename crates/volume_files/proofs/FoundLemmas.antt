@@ -8,6 +8,7 @@ use Rattle.std.proofs.lemmas.List.Sums.{sum_by-cons}
 use Rattle.block_device.specs.DiskSeen.{DiskSeen, HasBlocks, AreBlocks, IsBlock}
 use Rattle.block_device.specs.declared.numbered.NumberedDisk.{NumberedDisk}
 use Rattle.block_device.specs.declared.rack.Spec.{Spec}
+use Rattle.volume_disks.specs.declared.volume_spec.VolumeSpec.{VolumeSpec}
 use Rattle.volume_format.specs.vnode_files.declared.extent.Extent.{Extent}
 use Rattle.volume_format.specs.vnode_files.declared.vnode.FileInfo.{FileInfo}
 use Rattle.volume_format.specs.vnode_files.Grow.{extent_end, page_count}
@@ -76,7 +77,7 @@ each_name (n ∷ ns) (t ∷ ts) v = (all_at (λ (e : FileInfo). IsVolumeName e.n
 abbrev pub AllBlocks : List (ℕ × DiskSeen) → Type 0
 AllBlocks ds = AllByRecursion (λ (d : ℕ × DiskSeen). HasBlocks d.1.content d.1.size) ds
 
-each_own : (holds : Spec → Option (List (List ℕ))) (specs : List Spec) (ds : List (ℕ × DiskSeen)) (ts : List TableSeen) → AreMounted holds specs ds ts → AllBlocks ds
+each_own : (holds : Spec → Option (List (List ℕ))) (specs : List VolumeSpec) (ds : List (ℕ × DiskSeen)) (ts : List TableSeen) → AreMounted holds specs ds ts → AllBlocks ds
     → AllByRecursion HasItsBytes (found_files ds ts) × AllByRecursion (λ (f : OpenedFile). 1 ≤ page_count f.info.extents) (found_files ds ts)
 each_own holds specs [] ts m has = (tt, tt)
 each_own holds specs (d ∷ ds) [] m has = (tt, tt)
@@ -93,7 +94,7 @@ each_own holds (s ∷ specs) (d ∷ ds) (t ∷ ts) m has =
           some-page d.1.size (slice_index_or t.entries i no_entry) (file i below)))) rest.1,
     )
 
-pub found-good : (holds : Spec → Option (List (List ℕ))) (specs : List Spec) (ds : List (ℕ × DiskSeen)) (ts : List TableSeen) → AreMounted holds specs ds ts
+pub found-good : (holds : Spec → Option (List (List ℕ))) (specs : List VolumeSpec) (ds : List (ℕ × DiskSeen)) (ts : List TableSeen) → AreMounted holds specs ds ts
     → Distinct (map (λ (d : ℕ × DiskSeen). d.0) ds) → AllByRecursion IsVolumeTable ts → AllBlocks ds → GoodFiles (found_files ds ts)
 found-good holds specs ds ts m distinct v has =
     let ns = map (λ (d : ℕ × DiskSeen). d.0) ds in

@@ -1,5 +1,5 @@
 -- The files that a plan comes to, over disks that tell or not; and disks that are as the rack gave them.
-use Rattle.std.proofs.Common.{◌≡◌, ℕ, zero, suc, ◌==◌, List, [], ◌∷◌, ◌++◌, map, Option, Some, Result, Ok, refl, sym, ap, ◌∙◌, subst, inl, inr, cond}
+use Rattle.std.proofs.Common.{◌≡◌, ℕ, zero, suc, ◌==◌, List, [], ◌∷◌, map, Option, None, Some, Result, Ok, refl, sym, ap, ◌∙◌, subst, inl, inr, cond}
 use Rattle.std.specs.Prelude.{IfSome, unwrap_or, zip}
 use Rattle.std.specs.Map.{lookup}
 use Rattle.std.specs.Ordering.{nat_cmp}
@@ -8,21 +8,20 @@ use Rattle.std.specs.Cmp.{nat_cmp_total, unsigned_tied}
 use Rattle.std.proofs.lemmas.Bool.{cases_eq, eq-eqb, ne_eqb}
 use Rattle.std.proofs.lemmas.Option.{none-some, same_Some}
 use Rattle.block_device.specs.DiskSeen.{DiskSeen}
-use Rattle.block_device.specs.RackSeen.{IsAttached}
 use Rattle.block_device.specs.declared.numbered.NumberedDisk.{NumberedDisk}
-use Rattle.block_device.specs.declared.rack.Spec.{Spec}
-use Rattle.block_device.specs.declared.rack.Spec.TheVariants as spec
+use Rattle.volume_disks.specs.declared.volume_spec.VolumeSpec.{VolumeSpec}
 use Rattle.volume_format.specs.vnode_files.Files.{block_count}
 use Rattle.volume_format.specs.Table.{TableSeen}
 use Rattle.vm_report.specs.vm_script.PlanSeen.{PlanSeen}
 use Rattle.volume_files.specs.declared.stops.Refusal.{Refusal}
 use Rattle.volume_files.specs.Attached.{AreMounted, IsMounted, bare_disks, numbered_seen}
-use Rattle.volume_files.specs.Handed.{AreAsGiven, disk_numbers, sizes_of}
+use Rattle.volume_files.specs.Handed.{AreAsGiven, volume_numbers, sizes_of}
 use Rattle.volume_files.specs.Mounting.{Holds}
-use Rattle.volume_files.specs.Opened.{AreTablesRead, ComesTo, IsTableRead, OpenedFile, RackSays, disk_specs, if_few, mounted_infos, size_among, table_on, with_line_files}
+use Rattle.volume_files.specs.Opened.{AreTablesRead, ComesTo, IsTableRead, OpenedFile, IsVolumeAttached, RackSays, setup_volumes, volume_content, if_few, mounted_infos, size_among, table_on, with_line_files}
 use Rattle.volume_files.specs.Placing.{RemainsThere, found_files, placing_read, sizes_by_number}
 use Rattle.volume_files.proofs.DiskLists.{zip-back}
 use Rattle.volume_files.proofs.HandLemmas.{SameDisks}
+use Rattle.volume_files.proofs.HeldVolumes.{volume_told}
 use Rattle.volume_files.proofs.MountDisks.{AreGiven}
 use Rattle.volume_files.proofs.OpenLemmas.{infos-found}
 
@@ -48,11 +47,14 @@ size-counted (x ∷ xs) n =
     ]
 
 -- the tables that were read
-rack-says : (holds : Holds) (s : Spec) (d : DiskSeen) (t : TableSeen) → IsAttached s (holds s) d → IfSome d.content (λ blocks. table_on blocks ≡ Ok t) → RackSays holds s t
-rack-says holds (spec.Blank number n) d t a h = tt
-rack-says holds (spec.Path number path) d t a h = subst (λ (o : Option (List (List ℕ))). IfSome o (λ blocks. table_on blocks ≡ Ok t)) a h
+rack-says : (holds : Holds) (s : VolumeSpec) (d : DiskSeen) (t : TableSeen) → IsVolumeAttached holds s d → IfSome d.content (λ blocks. table_on blocks ≡ Ok t) → RackSays holds s t
+rack-says holds s d t a h = at (volume_content holds s) refl
+  where
+    at : (o : Option (List (List ℕ))) → volume_content holds s ≡ o → IfSome o (λ blocks. table_on blocks ≡ Ok t)
+    at None e = tt
+    at (Some blocks) e = subst (λ (o : Option (List (List ℕ))). IfSome o (λ bs. table_on bs ≡ Ok t)) (volume_told s holds d blocks a e) h
 
-table-read : (holds : Holds) (s : Spec) (d : ℕ × DiskSeen) (t : TableSeen) (e : ℕ × ℕ) → e ≡ sized d → IsMounted holds s d t → IsTableRead holds s e t
+table-read : (holds : Holds) (s : VolumeSpec) (d : ℕ × DiskSeen) (t : TableSeen) (e : ℕ × ℕ) → e ≡ sized d → IsMounted holds s d t → IsTableRead holds s e t
 table-read holds s d t e same m = subst (λ (x : ℕ × ℕ). IsTableRead holds s x t) (sym same)
     (record { number = m.number; some = m.some; few = m.few; blocks = m.blocks; volume = m.volume; told = rack-says holds s d.1 t m.attached m.read })
 
@@ -60,7 +62,7 @@ same-sized : {D : Type 0} (seen : D → DiskSeen) (d e : NumberedDisk D) → Rem
 same-sized seen d e r = λ i. (r.number i, r.size i)
 
 module _ {D : Type 0} (seen : D → DiskSeen) where
-  pub tables-read : (holds : Holds) (specs : List Spec) (ds es : List (NumberedDisk D)) (ts : List TableSeen) → AreMounted holds specs (map (numbered_seen seen) ds) ts → SameDisks seen ds es
+  pub tables-read : (holds : Holds) (specs : List VolumeSpec) (ds es : List (NumberedDisk D)) (ts : List TableSeen) → AreMounted holds specs (map (numbered_seen seen) ds) ts → SameDisks seen ds es
       → AreTablesRead holds specs (map sized (map (numbered_seen seen) es)) ts
   tables-read holds [] [] [] [] m r = tt
   tables-read holds [] [] [] (t ∷ ts) m r = absurd m
@@ -87,7 +89,7 @@ module _ {D : Type 0} (seen : D → DiskSeen) where
 
   -- what placing comes to is what the plan comes to over these disks
   abbrev pub comes-to : (plan : PlanSeen) (holds : Holds) (old new : List (NumberedDisk D)) (ts : List TableSeen) (r : Result (List OpenedFile) Refusal)
-      → AreMounted holds (disk_specs plan.setup) (map (numbered_seen seen) old) ts → SameDisks seen old new → placing_read seen old ts plan.setup ≡ r
+      → AreMounted holds (setup_volumes plan.setup) (map (numbered_seen seen) old) ts → SameDisks seen old new → placing_read seen old ts plan.setup ≡ r
       → ComesTo plan holds (map sized (map (numbered_seen seen) new)) r
   comes-to plan holds old new ts r m same read =
       let found = found_files (map (numbered_seen seen) old) ts in
@@ -97,7 +99,7 @@ module _ {D : Type 0} (seen : D → DiskSeen) where
       record {
         tables = ts;
         found = found;
-        read = tables-read holds (disk_specs plan.setup) old new ts m same;
+        read = tables-read holds (setup_volumes plan.setup) old new ts m same;
         mounted = infos-found (map (numbered_seen seen) old) ts ∙ ap (λ (ns : List ℕ). mounted_infos ns ts) (numbers-kept old new same);
         lines = subst (λ (ys : List (ℕ × ℕ)). with_line_files (size_among ys) (if_few (Ok found)) plan.setup ≡ r) (sizes-kept old new same) by-list;
       }
@@ -107,20 +109,20 @@ abbrev pub comes-sizes : (plan : PlanSeen) (holds : Holds) (xs ys : List (ℕ ×
 comes-sizes plan holds xs ys r is c = record {
   tables = c.tables;
   found = c.found;
-  read = subst (λ (zs : List (ℕ × ℕ)). AreTablesRead holds (disk_specs plan.setup) zs c.tables) is c.read;
+  read = subst (λ (zs : List (ℕ × ℕ)). AreTablesRead holds (setup_volumes plan.setup) zs c.tables) is c.read;
   mounted = c.mounted ∙ ap (λ (zs : List (ℕ × ℕ)). mounted_infos (map (λ (z : ℕ × ℕ). z.0) zs) c.tables) is;
   lines = subst (λ (zs : List (ℕ × ℕ)). with_line_files (size_among zs) (if_few (Ok c.found)) plan.setup ≡ r) is c.lines;
 }
 
 -- the sizes of disks that are handed back
-pub sizes-handed : (plan : PlanSeen) (disks : List (ℕ × DiskSeen)) → map (λ (d : ℕ × DiskSeen). d.0) disks ≡ disk_numbers plan → map sized disks ≡ sizes_of plan (bare_disks disks)
+pub sizes-handed : (plan : PlanSeen) (disks : List (ℕ × DiskSeen)) → map (λ (d : ℕ × DiskSeen). d.0) disks ≡ volume_numbers plan → map sized disks ≡ sizes_of plan (bare_disks disks)
 sizes-handed plan disks same = ap (map sized) (sym (ap (λ (ns : List ℕ). zip ns (bare_disks disks)) (sym same) ∙ zip-back disks))
 
--- disks as the rack gave them are those of a front of the specs
-pub as-given : (holds : Holds) (specs rest : List Spec) (disks : List (ℕ × DiskSeen)) → AreGiven holds specs disks → AreAsGiven holds (specs ++ rest) (bare_disks disks)
-as-given holds [] rest [] h i s d si di = absurd (none-some d di)
-as-given holds [] rest (y ∷ disks) h i s d si di = absurd h
-as-given holds (x ∷ specs) rest [] h i s d si di = absurd h
-as-given holds (x ∷ specs) rest (y ∷ disks) h zero s d si di =
-    subst (λ (z : Spec). IsAttached z (holds z) d) (same_Some x s si) (subst (λ (z : DiskSeen). IsAttached x (holds x) z) (same_Some y.1 d di) h.0.attached)
-as-given holds (x ∷ specs) rest (y ∷ disks) h (suc i) s d si di = as-given holds specs rest disks h.1 i s d si di
+-- disks as the rack gave them
+pub as-given : (holds : Holds) (specs : List VolumeSpec) (disks : List (ℕ × DiskSeen)) → AreGiven holds specs disks → AreAsGiven holds specs (bare_disks disks)
+as-given holds [] [] h i s d si di = absurd (none-some d di)
+as-given holds [] (y ∷ disks) h i s d si di = absurd h
+as-given holds (x ∷ specs) [] h i s d si di = absurd h
+as-given holds (x ∷ specs) (y ∷ disks) h zero s d si di =
+    subst (λ (z : VolumeSpec). IsVolumeAttached holds z d) (same_Some x s si) (subst (λ (z : DiskSeen). IsVolumeAttached holds x z) (same_Some y.1 d di) h.0.attached)
+as-given holds (x ∷ specs) (y ∷ disks) h (suc i) s d si di = as-given holds specs disks h.1 i s d si di

@@ -18,7 +18,8 @@ use Rattle.vm_report.specs.vm_script.declared.plan.SetupLine.{SetupLine}
 use Rattle.vm_report.specs.vm_script.Fields.{is_file_name, is_name_letter, is_word}
 use Rattle.vm_report.specs.vm_script.PlanSeen.{PlanSeen}
 use Rattle.vm_report.specs.vm_script.Printed.{IsSetupAct}
-use Rattle.vm_report.specs.vm_script.Rules.{broken_rule, has_wrong_frames, amounts_of, is_from_to, has_wrong_disk, lacks_disk, is_wrong_file}
+use Rattle.vm_report.specs.vm_script.Counts.{entry_count}
+use Rattle.vm_report.specs.vm_script.Rules.{broken_join, broken_rule, has_wrong_frames, amounts_of, is_from_to, has_wrong_disk, lacks_disk, is_wrong_file}
 use Rattle.vm_report.specs.vm_script.Sound.{IsSoundSetup}
 use Rattle.volume_files.specs.Attached.{HasItsBytes}
 use Rattle.volume_files.specs.Opened.{OpenedFile, infos_of, names_of, new_file}
@@ -89,6 +90,25 @@ files-right plan kept =
     let d = (kept_test (has_wrong_disk plan.setup) 4 _ c).1 in
     let e = (kept_test (list_any (λ (l : SetupLine). lacks_disk plan.setup l.act) plan.setup) 5 _ d).1 in
     (kept_test (list_any (λ (l : SetupLine). is_wrong_file l.act) plan.setup) 6 _ e).0
+
+-- and the rules of disks and of joins
+pub disks-right : (plan : PlanSeen) → broken_rule plan ≡ None → has_wrong_disk plan.setup ≡ false
+disks-right plan kept =
+    let a = (kept_test (has_wrong_frames plan.setup) 1 _ kept).1 in
+    let b = (kept_test (nat_lt 65536 (amounts_of plan.setup).slots) 2 _ a).1 in
+    let c = (kept_test (not (is_from_to 8 65536 (amounts_of plan.setup).translations)) 3 _ b).1 in
+    (kept_test (has_wrong_disk plan.setup) 4 _ c).0
+
+pub joins-right : (plan : PlanSeen) → broken_rule plan ≡ None → broken_join plan.setup ≡ None
+joins-right plan kept =
+    let a = (kept_test (has_wrong_frames plan.setup) 1 _ kept).1 in
+    let b = (kept_test (nat_lt 65536 (amounts_of plan.setup).slots) 2 _ a).1 in
+    let c = (kept_test (not (is_from_to 8 65536 (amounts_of plan.setup).translations)) 3 _ b).1 in
+    let d = (kept_test (has_wrong_disk plan.setup) 4 _ c).1 in
+    let e = (kept_test (list_any (λ (l : SetupLine). lacks_disk plan.setup l.act) plan.setup) 5 _ d).1 in
+    let f = (kept_test (list_any (λ (l : SetupLine). is_wrong_file l.act) plan.setup) 6 _ e).1 in
+    let h = (kept_test (nat_lt 64 (length plan.parents)) 7 _ f).1 in
+    (kept_test (nat_lt 1048576 (entry_count plan.lines)) 8 _ h).1
 
 each_law : (setup : List SetupLine) → AllByRecursion (λ (l : SetupLine). IsSetupAct l.act) setup
     → list_any (λ (l : SetupLine). is_wrong_file l.act) setup ≡ false → AllByRecursion (λ (l : SetupLine). LineLaw l.act) setup

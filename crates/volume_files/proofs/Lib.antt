@@ -1,6 +1,5 @@
 pub mod DiskLists
 pub mod FaultCauses
-pub mod BrokenDisks
 pub mod DiskCounts
 pub mod WrittenTexts
 pub mod FilePieces
@@ -31,7 +30,11 @@ pub mod GivenFiles
 pub mod AllPlaced
 pub mod StopLemmas
 pub mod MountSpecs
+pub mod HeldVolumes
+pub mod VolumeSeen
+pub mod JoinedNumbers
 pub mod MountDisks
+pub mod MountVolume
 pub mod MountStops
 pub mod MountEnds
 pub mod Unfailing

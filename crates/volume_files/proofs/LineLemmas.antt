@@ -1,12 +1,12 @@
 -- What holds of files holds with those of the lines behind them.
 use Rattle.vm_report.proofs.vm_script.Scripts.{not_true as not-is}
 use Rattle.vm_report.proofs.vm_script.Places.{some_none as none-or-some}
-use Rattle.std.specs.Prelude.{ℕ, zero, suc, ◌≡◌, ◌<◌, ◌≤◌, ◌+◌, ◌-◌, ◌==◌, ◌||◌, not, nat_le, nat_lt, Bool, true, false, List, [], ◌∷◌, ◌++◌, length, Option}
+use Rattle.std.specs.Prelude.{ℕ, zero, suc, ◌≡◌, ◌<◌, ◌≤◌, ◌+◌, ◌-◌, ◌==◌, not, nat_le, nat_lt, Bool, true, false, List, [], ◌∷◌, ◌++◌, length, Option}
 use Rattle.std.specs.Prelude.{Some, None, IfOk, IfSome, Result, Ok, Err, if◌then◌else◌, filter}
 use Rattle.std.specs.List.{list_any, list_all, range_with_len, AllByRecursion, find, flat_map}
 use Rattle.std.specs.Str.{bytes_eq}
 use Rattle.std.proofs.Common.{ap, ◌∙◌, sym, subst, refl, arith, inl, inr, cond}
-use Rattle.std.proofs.lemmas.Bool.{both_ways, and_parts, and_from, eq-eqb, ne_eqb, cases_eq, leb-false, ltb-true, or_parts as or_none}
+use Rattle.std.proofs.lemmas.Bool.{and_parts, and_from, eq-eqb, ne_eqb, cases_eq, leb-false, ltb-true, or_parts as or_none}
 use Rattle.std.proofs.lemmas.List.{append_assoc}
 use Rattle.std.proofs.lemmas.List.Folds.{list_any-append}
 use Rattle.vm_report.specs.flat_model.Words.{pages_in}

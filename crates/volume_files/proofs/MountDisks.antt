@@ -1,14 +1,14 @@
 -- The disks that are attached by a front of a plan's specs.
-use Rattle.std.proofs.Common.{◌≡◌, ℕ, zero, suc, ◌≤◌, ◌==◌, Bool, true, false, List, [], ◌∷◌, ◌++◌, length, map, Option, Some, None, Result, Ok, Err, refl, sym, ap, ◌∙◌, subst, cond, arith, ◌<◌, ◌⊎◌, inl, inr}
-use Rattle.std.specs.Prelude.{All, IfOk, IfSome, IsSome, slice_get, slice_index_or, take, unwrap_or, zip, if◌then◌else◌}
+use Rattle.std.proofs.Common.{◌≡◌, ◌≢◌, ℕ, zero, suc, ◌≤◌, ◌==◌, Bool, true, false, List, [], ◌∷◌, ◌++◌, length, map, Option, Some, None, Result, Ok, Err, refl, sym, ap, ◌∙◌, subst, cond, arith, ◌<◌, ◌⊎◌, inl, inr}
+use Rattle.std.specs.Prelude.{All, IfOk, IfSome, IsSome, slice_get, slice_index_or, zip, if◌then◌else◌}
 use Rattle.std.specs.Map.{lookup}
-use Rattle.std.proofs.Math.Seq.{take-append_seam}
-use Rattle.std.proofs.lemmas.Bool.{false≢true}
+use Rattle.std.proofs.lemmas.Bool.{ne_eqb}
 use Rattle.std.proofs.lemmas.Bool.Decides.{nat_tests}
 use Rattle.std.proofs.lemmas.List.Elements.{All-nil, All-cons, All-head, All-tail}
 use Rattle.block_device.specs.DiskSeen.{DiskSeen, HasBlocks, Shows}
-use Rattle.block_device.specs.RackSeen.{spec_number, IsAttached}
-use Rattle.block_device.specs.declared.rack.Spec.{Spec}
+use Rattle.block_device.specs.RackSeen.{IsAttached}
+use Rattle.volume_disks.specs.declared.volume_spec.VolumeSpec.{VolumeSpec}
+use Rattle.volume_disks.specs.declared.volume_spec.VolumeSpec.TheVariants.{Plain, Joined}
 use Rattle.block_device.specs.declared.rack.Spec.TheVariants as spec
 use Rattle.volume_format.specs.declared.rules.BadVolume.{BadVolume}
 use Rattle.volume_format.specs.Rules.{reading, table_or_rule, first_failed, tests}
@@ -22,17 +22,19 @@ use Rattle.volume_files.specs.Handed.{HasSpecSize, HaveSpecSizes}
 use Rattle.volume_format.specs.Volume.{IsVolumeTable}
 use Rattle.volume_files.specs.declared.stops.OpenStop.{OpenStop}
 use Rattle.volume_files.specs.Mounting.{Holds, IsGiven, SaysTableRead}
-use Rattle.volume_files.specs.Opened.{OpenedFile, blocks_held, disks_held, table_read, table_of_read, table_on, with_mounted, mounted_files}
+use Rattle.volume_files.specs.Opened.{IsVolumeAttached, OpenedFile, joined_size, mounted_file, sizes_refused, table_read, table_of_read, table_on, told_table, unless_refused}
+use Rattle.volume_files.specs.Opened.{volume_blocks, volume_number, with_mounted, mounted_files}
+use Rattle.volume_files.proofs.HeldVolumes.{told_volume}
 use Rattle.volume_files.specs.Written.{OnlyReads}
 use Rattle.volume_files.proofs.MountSpecs.{AreLow}
 
 -- Each disk was attached by the spec at its place.
-abbrev pub AreGiven : Holds → List Spec → List (ℕ × DiskSeen) → Type 0
+abbrev pub AreGiven : Holds → List VolumeSpec → List (ℕ × DiskSeen) → Type 0
 AreGiven holds [] [] = Unit {0}
 AreGiven holds (s ∷ specs) (d ∷ disks) = IsGiven holds s d × AreGiven holds specs disks
 AreGiven holds specs disks = ⊥
 
-pub given_of_mounted : (holds : Holds) (specs : List Spec) (disks : List (ℕ × DiskSeen)) (tables : List TableSeen) → AreMounted holds specs disks tables → AreGiven holds specs disks
+pub given_of_mounted : (holds : Holds) (specs : List VolumeSpec) (disks : List (ℕ × DiskSeen)) (tables : List TableSeen) → AreMounted holds specs disks tables → AreGiven holds specs disks
 given_of_mounted holds [] [] [] h = tt
 given_of_mounted holds (s ∷ specs) (d ∷ disks) (t ∷ tables) h = (record { number = h.0.number; attached = h.0.attached }, given_of_mounted holds specs disks tables h.1)
 given_of_mounted holds [] [] (t ∷ tables) h = absurd h
@@ -42,14 +44,14 @@ given_of_mounted holds (s ∷ specs) [] [] h = absurd h
 given_of_mounted holds (s ∷ specs) [] (t ∷ tables) h = absurd h
 given_of_mounted holds (s ∷ specs) (d ∷ disks) [] h = absurd h
 
-pub given_push : (holds : Holds) (specs : List Spec) (disks : List (ℕ × DiskSeen)) (s : Spec) (d : ℕ × DiskSeen) → AreGiven holds specs disks → IsGiven holds s d
+pub given_push : (holds : Holds) (specs : List VolumeSpec) (disks : List (ℕ × DiskSeen)) (s : VolumeSpec) (d : ℕ × DiskSeen) → AreGiven holds specs disks → IsGiven holds s d
     → AreGiven holds (specs ++ s ∷ []) (disks ++ d ∷ [])
 given_push holds [] [] s d h is = (is, tt)
 given_push holds (x ∷ specs) (y ∷ disks) s d h is = (h.0, given_push holds specs disks s d h.1 is)
 given_push holds [] (y ∷ disks) s d h is = absurd h
 given_push holds (x ∷ specs) [] s d h is = absurd h
 
-pub mounted_push : (holds : Holds) (specs : List Spec) (disks : List (ℕ × DiskSeen)) (tables : List TableSeen) (s : Spec) (d : ℕ × DiskSeen) (t : TableSeen)
+pub mounted_push : (holds : Holds) (specs : List VolumeSpec) (disks : List (ℕ × DiskSeen)) (tables : List TableSeen) (s : VolumeSpec) (d : ℕ × DiskSeen) (t : TableSeen)
     → AreMounted holds specs disks tables → IsMounted holds s d t → AreMounted holds (specs ++ s ∷ []) (disks ++ d ∷ []) (tables ++ t ∷ [])
 mounted_push holds [] [] [] s d t h is = (is, tt)
 mounted_push holds (x ∷ specs) (y ∷ disks) (z ∷ tables) s d t h is = (h.0, mounted_push holds specs disks tables s d t h.1 is)
@@ -60,14 +62,32 @@ mounted_push holds (x ∷ specs) [] [] s d t h is = absurd h
 mounted_push holds (x ∷ specs) [] (z ∷ tables) s d t h is = absurd h
 mounted_push holds (x ∷ specs) (y ∷ disks) [] s d t h is = absurd h
 
--- What is held for one spec is all that counts for its disk.
-pub given_held : (holds others : Holds) (s : Spec) (d : ℕ × DiskSeen) → holds s ≡ others s → IsGiven holds s d → IsGiven others s d
-given_held holds others s d e g = record { number = g.number; attached = subst (λ h. IsAttached s h d.1) e g.attached }
+-- What is held for the disks of a volume is all that counts for it.
+abbrev pub HoldsAs : Holds → Holds → VolumeSpec → Type 0
+HoldsAs holds others (Plain s) = holds s ≡ others s
+HoldsAs holds others (Joined first second mirror) = (holds first ≡ others first) × (holds second ≡ others second)
 
-pub mounted_held : (holds others : Holds) (s : Spec) (d : ℕ × DiskSeen) (t : TableSeen) → holds s ≡ others s → IsMounted holds s d t → IsMounted others s d t
+pub attached_held : (holds others : Holds) (s : VolumeSpec) (d : DiskSeen) → HoldsAs holds others s → IsVolumeAttached holds s d → IsVolumeAttached others s d
+attached_held holds others (Plain s) d e g = subst (λ h. IsAttached s h d) e g
+attached_held holds others (Joined first second mirror) d e g = record {
+  a = g.a;
+  b = g.b;
+  one = subst (λ h. IsAttached first h g.a) e.0 g.one;
+  two = subst (λ h. IsAttached second h g.b) e.1 g.two;
+  one_whole = g.one_whole;
+  two_whole = g.two_whole;
+  fit = g.fit;
+  size = g.size;
+  content = g.content;
+}
+
+pub given_held : (holds others : Holds) (s : VolumeSpec) (d : ℕ × DiskSeen) → HoldsAs holds others s → IsGiven holds s d → IsGiven others s d
+given_held holds others s d e g = record { number = g.number; attached = attached_held holds others s d.1 e g.attached }
+
+pub mounted_held : (holds others : Holds) (s : VolumeSpec) (d : ℕ × DiskSeen) (t : TableSeen) → HoldsAs holds others s → IsMounted holds s d t → IsMounted others s d t
 mounted_held holds others s d t e m = record {
   number = m.number;
-  attached = subst (λ h. IsAttached s h d.1) e m.attached;
+  attached = attached_held holds others s d.1 e m.attached;
   some = m.some;
   few = m.few;
   blocks = m.blocks;
@@ -75,17 +95,23 @@ mounted_held holds others s d t e m = record {
   read = m.read;
 }
 
-spec_size : (s : Spec) (h : Option (List (List ℕ))) (d : DiskSeen) → IsAttached s h d → HasSpecSize s d
-spec_size (spec.Blank number blocks) h d a = a.0
-spec_size (spec.Path number path) h d a = tt
+-- the size of a volume of blank disks
+joined-blank : (mirror : Bool) (n size : ℕ) → size ≡ n → joined_size mirror size ≡ joined_size mirror n
+joined-blank mirror n size e = ap (joined_size mirror) e
 
-pub given_length : (holds : Holds) (specs : List Spec) (disks : List (ℕ × DiskSeen)) → AreGiven holds specs disks → length (bare_disks disks) ≡ length specs
+pub spec_size : (s : VolumeSpec) (holds : Holds) (d : DiskSeen) → IsVolumeAttached holds s d → HasSpecSize s d
+spec_size (Plain (spec.Blank number blocks)) holds d a = a.0
+spec_size (Plain (spec.Path number path)) holds d a = tt
+spec_size (Joined (spec.Blank number blocks) second mirror) holds d a = a.size ∙ joined-blank mirror blocks a.a.size a.one.0
+spec_size (Joined (spec.Path number path) second mirror) holds d a = tt
+
+pub given_length : (holds : Holds) (specs : List VolumeSpec) (disks : List (ℕ × DiskSeen)) → AreGiven holds specs disks → length (bare_disks disks) ≡ length specs
 given_length holds [] [] h = refl
 given_length holds (s ∷ specs) (d ∷ disks) h = ap suc (given_length holds specs disks h.1)
 given_length holds [] (d ∷ disks) h = absurd h
 given_length holds (s ∷ specs) [] h = absurd h
 
-size_at : (holds : Holds) (specs : List Spec) (disks : List (ℕ × DiskSeen)) → AreGiven holds specs disks → (i : ℕ) (s : Spec) (d : DiskSeen)
+size_at : (holds : Holds) (specs : List VolumeSpec) (disks : List (ℕ × DiskSeen)) → AreGiven holds specs disks → (i : ℕ) (s : VolumeSpec) (d : DiskSeen)
     → slice_get specs i ≡ Some s → slice_get (bare_disks disks) i ≡ Some d → HasSpecSize s d
 size_at holds [] [] h i s d es ed = absurd (cc es)
 size_at holds [] (y ∷ disks) h i s d es ed = absurd h
@@ -93,52 +119,43 @@ size_at holds (x ∷ specs) [] h i s d es ed = absurd h
 size_at holds (x ∷ specs) (y ∷ disks) h zero s d es ed =
     let a : x ≡ s = cc es in
     let b : y.1 ≡ d = cc ed in
-    subst (λ z. HasSpecSize z d) a (subst (λ z. HasSpecSize x z) b (spec_size x (holds x) y.1 h.0.attached))
+    subst (λ z. HasSpecSize z d) a (subst (λ z. HasSpecSize x z) b (spec_size x holds y.1 h.0.attached))
 size_at holds (x ∷ specs) (y ∷ disks) h (suc i) s d es ed = size_at holds specs disks h.1 i s d es ed
 
-pub front_sizes : (holds : Holds) (specs rest : List Spec) (disks : List (ℕ × DiskSeen)) → AreGiven holds specs disks
-    → HaveSpecSizes (take (length (bare_disks disks)) (specs ++ rest)) (bare_disks disks)
-front_sizes holds specs rest disks h =
-    let e : take (length (bare_disks disks)) (specs ++ rest) ≡ specs = ap (λ n. take n (specs ++ rest)) (given_length holds specs disks h) ∙ take-append_seam specs rest in
-    subst (λ xs. HaveSpecSizes xs (bare_disks disks)) (sym e) (given_length holds specs disks h, size_at holds specs disks h)
+pub given_sizes : (holds : Holds) (specs : List VolumeSpec) (disks : List (ℕ × DiskSeen)) → AreGiven holds specs disks → HaveSpecSizes specs (bare_disks disks)
+given_sizes holds specs disks h = (given_length holds specs disks h, size_at holds specs disks h)
 
-pub lookup_given : (holds : Holds) (specs : List Spec) (disks : List (ℕ × DiskSeen)) (number : ℕ) (d : DiskSeen) (more : List ℕ) → AreGiven holds specs disks → AreLow number specs
-    → lookup (λ n. n == number) (zip (map spec_number specs ++ number ∷ more) (bare_disks disks ++ d ∷ [])) ≡ Some d
-lookup_given holds [] [] number d more h low =
+-- None of these volumes has this number.
+abbrev pub AreOther : ℕ → List VolumeSpec → Type 0
+AreOther number [] = Unit {0}
+AreOther number (s ∷ specs) = (volume_number s ≢ number) × AreOther number specs
+
+pub low_other : (number : ℕ) (specs : List VolumeSpec) → AreLow number specs → AreOther number specs
+low_other number [] low = tt
+low_other number (s ∷ specs) low = ((λ e. let lt = low.0 in absurd (omega (arith, e, lt))), low_other number specs low.1)
+
+pub lookup_given : (holds : Holds) (specs : List VolumeSpec) (disks : List (ℕ × DiskSeen)) (number : ℕ) (d : DiskSeen) (more : List ℕ) (behind : List DiskSeen) → AreGiven holds specs disks → AreOther number specs
+    → lookup (λ n. n == number) (zip (map volume_number specs ++ number ∷ more) (bare_disks disks ++ d ∷ behind)) ≡ Some d
+lookup_given holds [] [] number d more behind h other =
     let here : (number == number) ≡ true = grind (arith, nat_tests) in
-    ap (λ b. cond b (Some d) (lookup (λ n. n == number) (zip more []))) here
-lookup_given holds (s ∷ specs) (x ∷ disks) number d more h low =
-    let lt = low.0 in
-    let other : (spec_number s == number) ≡ false = grind (arith, nat_tests, lt) in
-    ap (λ b. cond b (Some x.1) (lookup (λ n. n == number) (zip (map spec_number specs ++ number ∷ more) (bare_disks disks ++ d ∷ [])))) other
-    ∙ lookup_given holds specs disks number d more h.1 low.1
-lookup_given holds [] (x ∷ disks) number d more h low = absurd h
-lookup_given holds (s ∷ specs) [] number d more h low = absurd h
-
--- What a disk that tells holds is what the rack held for its spec.
-held_told : (s : Spec) (holds : Holds) (d : DiskSeen) (blocks : List (List ℕ)) → IsAttached s (holds s) d → d.content ≡ Some blocks → blocks_held holds s ≡ blocks
-held_told (spec.Blank number n) holds d blocks a e = sym (subst (λ c. IfSome c (λ content. content ≡ blocks_held holds (spec.Blank number n))) e a.1)
-held_told (spec.Path number path) holds d blocks a e = ap (λ o. unwrap_or o []) (sym a ∙ e)
-
-pub told_table : (s : Spec) (holds : Holds) (d : DiskSeen) (r : Result TableSeen ℕ) → IsAttached s (holds s) d → IsSome d.content → IfSome d.content (λ blocks. table_on blocks ≡ r)
-    → table_on (blocks_held holds s) ≡ r
-told_table s holds d r a some h = at d.content refl some h
-  where
-    at : (o : Option (List (List ℕ))) → d.content ≡ o → IsSome o → IfSome o (λ blocks. table_on blocks ≡ r) → table_on (blocks_held holds s) ≡ r
-    at None e some h = absurd (false≢true some)
-    at (Some blocks) e some h = ap table_on (held_told s holds d blocks a e) ∙ h
+    ap (λ b. cond b (Some d) (lookup (λ n. n == number) (zip more behind))) here
+lookup_given holds (s ∷ specs) (x ∷ disks) number d more behind h other =
+    ap (λ b. cond b (Some x.1) (lookup (λ n. n == number) (zip (map volume_number specs ++ number ∷ more) (bare_disks disks ++ d ∷ behind)))) (ne_eqb (volume_number s) number other.0)
+    ∙ lookup_given holds specs disks number d more behind h.1 other.1
+lookup_given holds [] (x ∷ disks) number d more behind h other = absurd h
+lookup_given holds (s ∷ specs) [] number d more behind h other = absurd h
 
 abbrev pub Told : DiskSeen → Type 0
 Told d = IsSome d.content
 
-pub mounted_err : (holds : Holds) (specs rest : List Spec) (disks : List (ℕ × DiskSeen)) (tables : List TableSeen) (r : Refusal) → AreMounted holds specs disks tables
-    → All Told (bare_disks disks) → mounted_files (disks_held holds rest) ≡ Err r → mounted_files (disks_held holds (specs ++ rest)) ≡ Err r
+pub mounted_err : (holds : Holds) (specs rest : List VolumeSpec) (disks : List (ℕ × DiskSeen)) (tables : List TableSeen) (r : Refusal) → AreMounted holds specs disks tables
+    → All Told (bare_disks disks) → mounted_files holds rest ≡ Err r → mounted_files holds (specs ++ rest) ≡ Err r
 mounted_err holds [] rest [] [] r h told e = e
 mounted_err holds (s ∷ specs) rest (d ∷ disks) (t ∷ tables) r h told e =
     let ih = mounted_err holds specs rest disks tables r h.1 (All-tail Told d.1 (bare_disks disks) told) e in
-    let here = told_table s holds d.1 (Ok t) h.0.attached (All-head Told d.1 (bare_disks disks) told) h.0.read in
-    ap (λ (x : Result TableSeen ℕ). with_mounted (spec_number s, blocks_held holds s) x (mounted_files (disks_held holds (specs ++ rest)))) here
-    ∙ ap (λ (x : Result (List OpenedFile) Refusal). with_mounted (spec_number s, blocks_held holds s) (Ok t) x) ih
+    let here = told_volume s holds d.1 (Ok t) h.0.attached (All-head Told d.1 (bare_disks disks) told) h.0.read in
+    ap (λ (x : Result TableSeen Refusal). with_mounted (volume_number s, volume_blocks holds s) x (mounted_files holds (specs ++ rest))) here
+    ∙ ap (λ (x : Result (List OpenedFile) Refusal). with_mounted (volume_number s, volume_blocks holds s) (Ok t) x) ih
 mounted_err holds [] rest [] (t ∷ tables) r h told e = absurd h
 mounted_err holds [] rest (d ∷ disks) [] r h told e = absurd h
 mounted_err holds [] rest (d ∷ disks) (t ∷ tables) r h told e = absurd h
@@ -146,10 +163,33 @@ mounted_err holds (s ∷ specs) rest [] [] r h told e = absurd h
 mounted_err holds (s ∷ specs) rest [] (t ∷ tables) r h told e = absurd h
 mounted_err holds (s ∷ specs) rest (d ∷ disks) [] r h told e = absurd h
 
-pub mounted_here : (holds : Holds) (s : Spec) (rest : List Spec) (d : DiskSeen) (rule : ℕ) → IsAttached s (holds s) d → IsSome d.content → IfSome d.content (λ blocks. table_on blocks ≡ Err rule)
-    → mounted_files (disks_held holds (s ∷ rest)) ≡ Err (refusal.Volume (spec_number s) rule)
+pub mounted_here : (holds : Holds) (s : VolumeSpec) (rest : List VolumeSpec) (d : DiskSeen) (rule : ℕ) → IsVolumeAttached holds s d → IsSome d.content → IfSome d.content (λ blocks. table_on blocks ≡ Err rule)
+    → mounted_files holds (s ∷ rest) ≡ Err (refusal.Volume (volume_number s) rule)
 mounted_here holds s rest d rule a some h =
-    ap (λ (x : Result TableSeen ℕ). with_mounted (spec_number s, blocks_held holds s) x (mounted_files (disks_held holds rest))) (told_table s holds d (Err rule) a some h)
+    ap (λ (x : Result TableSeen Refusal). with_mounted (volume_number s, volume_blocks holds s) x (mounted_files holds rest)) (told_volume s holds d (Err rule) a some h)
+
+-- and so it is where the sizes of two disks don't serve
+pub unfit_here : (holds : Holds) (s : VolumeSpec) (rest : List VolumeSpec) (r : Refusal) → sizes_refused holds s ≡ Some r → mounted_files holds (s ∷ rest) ≡ Err r
+unfit_here holds s rest r refused =
+    ap (λ (o : Option Refusal). with_mounted (volume_number s, volume_blocks holds s) (unless_refused o (told_table (volume_number s) (table_on (volume_blocks holds s)))) (mounted_files holds rest)) refused
+
+-- Volumes that were mounted and tell have files.
+pub mounted_ok : (holds : Holds) (specs : List VolumeSpec) (disks : List (ℕ × DiskSeen)) (tables : List TableSeen) → AreMounted holds specs disks tables
+    → All Told (bare_disks disks) → (files : List OpenedFile) × (mounted_files holds specs ≡ Ok files)
+mounted_ok holds [] [] [] h told = ([], refl)
+mounted_ok holds (s ∷ specs) (d ∷ disks) (t ∷ tables) h told =
+    let ih = mounted_ok holds specs disks tables h.1 (All-tail Told d.1 (bare_disks disks) told) in
+    let here = told_volume s holds d.1 (Ok t) h.0.attached (All-head Told d.1 (bare_disks disks) told) h.0.read in
+    let disk : ℕ × List (List ℕ) = (volume_number s, volume_blocks holds s) in (
+      map (mounted_file disk) t.entries ++ ih.0,
+      ap (λ (x : Result TableSeen Refusal). with_mounted disk x (mounted_files holds specs)) here ∙ ap (λ (x : Result (List OpenedFile) Refusal). with_mounted disk (Ok t) x) ih.1,
+    )
+mounted_ok holds [] [] (t ∷ tables) h told = absurd h
+mounted_ok holds [] (d ∷ disks) [] h told = absurd h
+mounted_ok holds [] (d ∷ disks) (t ∷ tables) h told = absurd h
+mounted_ok holds (s ∷ specs) [] [] h told = absurd h
+mounted_ok holds (s ∷ specs) [] (t ∷ tables) h told = absurd h
+mounted_ok holds (s ∷ specs) (d ∷ disks) [] h told = absurd h
 
 pub all_last : (disks : List DiskSeen) (d : DiskSeen) → All Told (disks ++ d ∷ []) → All Told disks × Told d
 all_last [] d h = (All-nil Told, All-head Told d [] h)

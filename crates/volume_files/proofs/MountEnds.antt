@@ -1,6 +1,7 @@
 -- A run that stops as its disks are attached.
-use Rattle.std.proofs.Common.{◌≡◌, ℕ, ◌≤◌, List, [], ◌∷◌, map, Option, Some, None, refl, sym, ap, ◌∙◌, subst, inl, inr}
-use Rattle.std.specs.Prelude.{IfErr, option_map, Result, Ok, Err}
+use Rattle.std.proofs.Common.{◌≡◌, ℕ, ◌<◌, ◌≤◌, arith, inl, List, [], ◌∷◌, map, Option, Some, None, refl, sym, ap, ◌∙◌, subst, inr}
+use Rattle.std.specs.Prelude.{IfErr, MatchOption, nat_le, option_map, Result, Ok, Err}
+use Rattle.block_device.specs.Counts.{HasRisen}
 use Rattle.block_device.specs.DiskSeen.{DiskSeen}
 use Rattle.block_device.specs.RackSeen.{spec_number}
 use Rattle.block_device.specs.declared.numbered.NumberedDisk.{NumberedDisk}
@@ -8,10 +9,12 @@ use Rattle.vm_report.specs.vm_script.declared.plan.SetupLine.{SetupLine}
 use Rattle.vm_report.specs.vm_script.PlanSeen.{PlanSeen}
 use Rattle.vm_report.specs.vm_script.Rules.{amounts_of}
 use Rattle.volume_files.specs.declared.stops.OpenStop.{OpenStop}
+use Rattle.volume_files.specs.declared.stops.OpenStop.TheVariants as halt
 use Rattle.volume_files.specs.declared.stops.HandedBack.{HandedBack}
 use Rattle.volume_files.specs.Attached.{StopsEarly, bare_disks, numbered_seen}
-use Rattle.volume_files.specs.Handed.{IsSwapAsGiven, IsSwapFor}
-use Rattle.volume_files.specs.Mounting.{Holds, HaltsNumber, Halts}
+use Rattle.volume_files.specs.Handed.{AreUntouched, HandsBelow, HandsUnracked, IsCountedBy, IsSwapAsGiven, IsSwapFor}
+use Rattle.volume_files.specs.Mounting.{Holds, HaltsNumber, Halts, UngivenCause}
+use Rattle.volume_files.specs.Opened.{volume_number}
 use Rattle.volume_files.proofs.MountStops.{ungiven_later, Stopped, stopped}
 
 halts_later : (setup : List SetupLine) (holds : Holds) (old mid new : ℕ) (disks : List (ℕ × DiskSeen)) (how : OpenStop) → old ≤ mid
@@ -25,8 +28,23 @@ halts_later setup holds old mid new disks how le h =
       x.0,
       x.1,
       elim x.2 [
-        | inl b ↦ inl (record { same = b.same; cause = ungiven_later (spec_number x.0) old mid new how le b.cause })
-        | inr u ↦ inr u
+        | inl b ↦ inl (record { same = b.same; cause = ungiven_later (volume_number x.0) old mid new how le b.cause })
+        | inr more ↦ elim more [
+          | inl u ↦ inr (inl u)
+          | inr rest ↦ elim rest [
+            | inl f ↦ inr (inr (inl (record {
+              first = f.first;
+              second = f.second;
+              mirror = f.mirror;
+              joined = f.joined;
+              disk = f.disk;
+              given = f.given;
+              behind = f.behind;
+              cause = ungiven_later (spec_number f.second) old mid new how le f.cause;
+            })))
+            | inr u ↦ inr (inr (inr u))
+          ]
+        ]
       ],
     )
 
@@ -34,6 +52,35 @@ pub stopped_later : (plan : PlanSeen) (holds : Holds) (old mid new : ℕ) (swap 
     → IsSwapFor (amounts_of plan.setup).slots swap → IsSwapAsGiven (amounts_of plan.setup).slots swap
     → Halts plan.setup holds mid new disks how → Stopped plan holds old new (bare_disks disks) swap how
 stopped_later plan holds old mid new swap disks how le swaps blank h = stopped plan holds old new swap disks how swaps blank (halts_later plan.setup holds old mid new disks how le h)
+
+-- Nothing was attached, not even the swap disk.
+no_disks : (plan : PlanSeen) (holds : Holds) → AreUntouched plan holds [] None
+no_disks plan holds = record { whole = 0; apart = 0; count = refl; each = λ i s d si di. absurd (let z : ◌≡◌ {A = Option DiskSeen} None (Some d) = di in cc); last = tt }
+
+pub swap_stopped : (plan : PlanSeen) (holds : Holds) (old new : ℕ) (how : OpenStop) → 0 < (amounts_of plan.setup).slots → UngivenCause 8 old new how → Stopped plan holds old new [] None how
+swap_stopped plan holds old new (halt.Failed f) some c = record {
+  handed = tt;
+  cause = inl (
+    subst (λ (o : Option (ℕ × ℕ)). MatchOption o (HasRisen old new) (λ counts. IsCountedBy plan [] None f.disk counts.0 counts.1)) (sym c.1) c.2,
+    record {
+      handed = subst (λ (o : Option (ℕ × ℕ)). MatchOption o (HandsUnracked plan [] None f.disk) (λ counts. HandsBelow plan (λ n. nat_le n f.disk) 0 [] None)) (sym c.1)
+          (inl (c.0, some, record { no_disk = refl; no_swap = refl }));
+      first = λ told. inl c.0;
+      same = no_disks plan holds;
+    },
+  );
+}
+swap_stopped plan holds old new halt.Memory some c = record {
+  handed = record {
+    whole = 0;
+    apart = 0;
+    each = (refl, λ i s d si di. absurd (let z : ◌≡◌ {A = Option DiskSeen} None (Some d) = di in cc));
+    first = tt;
+    before = λ h. absurd (omega (arith, h));
+  };
+  cause = no_disks plan holds;
+}
+swap_stopped plan holds old new (halt.Refused r) some c = absurd c
 
 pub err_then : {T E : Type 0} (r : Result T E) (P Q : E → Type 0) → ((e : E) → P e → Q e) → IfErr r P → IfErr r Q
 err_then (Ok x) P Q f h = tt

@@ -1,17 +1,26 @@
 -- What is handed back, and why, where the attaching stopped.
 use Rattle.volume_files.proofs.StopLemmas.{front_swap as swap_front}
 use Rattle.std.proofs.Common.{◌≡◌, ℕ, suc, ◌+◌, ◌-◌, ◌<◌, ◌≤◌, ◌==◌, Bool, true, false, List, [], ◌∷◌, ◌++◌, length, map, Option, Some, None, Result, Ok, Err}
-use Rattle.std.proofs.Common.{refl, sym, ap, ◌∙◌, subst, arith, append-nil, inl, inr}
-use Rattle.std.specs.Prelude.{IsSomeAnd, All, IfErr, IfSome, MatchBool, MatchOption, nat_lt, nat_le, zip, take, if◌then◌else◌}
+use Rattle.std.proofs.Common.{refl, sym, ap, ◌∙◌, ◌⊎◌, ◌≢◌, subst, arith, append-nil, append_assoc, inl, inr, replicate}
+use Rattle.std.proofs.Math.Seq.{take-append_seam}
+use Rattle.std.proofs.lemmas.Bool.{both_ways, eq-eqb}
+use Rattle.std.proofs.lemmas.List.{length-replicate}
+use Rattle.std.specs.Prelude.{IsSomeAnd, All, IfErr, IfSome, IsOk, MatchOption, nat_lt, nat_le, option_and_then, slice_get, zip, take, if◌then◌else◌}
 use Rattle.std.specs.List.{Contains, cons_option}
 use Rattle.std.specs.Map.{lookup}
 use Rattle.std.proofs.lemmas.Bool.Decides.{nat_tests}
 use Rattle.std.proofs.lemmas.List.{map-append}
 use Rattle.std.proofs.lemmas.List.Elements.{Contains-append_right}
 use Rattle.block_device.specs.Counts.{HasRisen}
-use Rattle.block_device.specs.DiskSeen.{DiskSeen}
+use Rattle.block_device.specs.DiskSeen.{DiskSeen, HasBlocks}
 use Rattle.block_device.specs.RackSeen.{spec_number}
+use Rattle.block_device.specs.OpenSeen.{OpenFaultSeen}
 use Rattle.block_device.specs.declared.rack.Spec.{Spec}
+use Rattle.volume_disks.specs.Volumes.{is_volume_size, second_spec, size_fault}
+use Rattle.volume_disks.specs.declared.stops.VolumeStop.{VolumeStop}
+use Rattle.volume_disks.specs.declared.stops.VolumeStop.TheVariants as unfit
+use Rattle.volume_disks.specs.declared.volume_spec.VolumeSpec.{VolumeSpec}
+use Rattle.volume_disks.specs.declared.volume_spec.VolumeSpec.TheVariants.{Plain, Joined}
 use Rattle.volume_format.specs.Table.{TableSeen}
 use Rattle.vm_report.specs.vm_script.declared.plan.SetupLine.{SetupLine}
 use Rattle.vm_report.specs.vm_script.PlanSeen.{PlanSeen}
@@ -22,23 +31,25 @@ use Rattle.volume_files.specs.declared.stops.Refusal.{Refusal}
 use Rattle.volume_files.specs.declared.stops.Refusal.TheVariants as refusal
 use Rattle.volume_files.specs.Attached.{AreMounted, StopCause, HandsStopped, bare_disks}
 use Rattle.volume_files.specs.Handed.{HasBadTable, HaveTold, HaveSpecSizes, IsSwapAsGiven, IsSwapFor, IsCountedBy, AreAsGiven, AreUntouched, HandsFront}
-use Rattle.volume_files.specs.Handed.{HandsBelow, HandsNone, HandsUnracked, disk_numbers, disk_handed}
-use Rattle.volume_files.specs.Mounting.{Holds, specs_below, IsGiven, UnreadCause, UngivenCause, MountsOne, MountsNumber, HaltsSpec, HaltsNumber, Halts}
-use Rattle.volume_files.specs.Opened.{OpenedFile, disk_numbered, disk_specs, disks_held, mounted_files, opened_files, size_held, if_few, with_line_files, table_on}
-use Rattle.volume_files.proofs.BrokenDisks.{broken-behind}
+use Rattle.volume_files.specs.Handed.{BreaksLine, HandsApart, HandsBelow, HandsUnracked, HasDiskNumbered, NoneBreaksBefore, disk_handed, disk_stopped, disks_apart, handed_specs, volume_numbers}
+use Rattle.volume_files.specs.Mounting.{Holds, specs_below, IsGiven, UnreadCause, UngivenCause, UnfitCause, MountsOne, MountsNumber, HaltsSpec, HaltsNumber, Halts}
+use Rattle.volume_files.specs.Opened.{OpenedFile, held_size, mounted_files, opened_files, setup_volumes, size_held, size_refusal, sizes_refused, if_few, with_line_files, table_on}
+use Rattle.volume_files.specs.Opened.{volume_number, volume_numbered, volume_specs, volumes_held}
+use Rattle.volume_files.proofs.HeldVolumes.{spec_long, spec_tells}
+use Rattle.volume_files.proofs.JoinedNumbers.{second_of, seconds_other, two_numbers}
 use Rattle.volume_files.proofs.FaultCauses.{if-counted}
 use Rattle.volume_files.proofs.GivenFiles.{as-given}
-use Rattle.volume_files.proofs.MountSpecs.{numbered_is, specs_from, specs_split, specs_more, count_below, low_specs}
-use Rattle.volume_files.proofs.MountDisks.{AreGiven, given_of_mounted, given_push, mounted_push, given_held, mounted_held, given_length, front_sizes}
-use Rattle.volume_files.proofs.MountDisks.{lookup_given, mounted_err, mounted_here, Told, all_last}
+use Rattle.volume_files.proofs.MountSpecs.{volume_is, specs_from, specs_split, specs_more, count_below, low_specs}
+use Rattle.volume_files.proofs.MountDisks.{AreGiven, AreOther, HoldsAs, given_of_mounted, given_push, mounted_push, given_held, mounted_held, given_length, given_sizes}
+use Rattle.volume_files.proofs.MountDisks.{low_other, lookup_given, mounted_err, mounted_here, mounted_ok, Told, all_last, size-bad, unfit_here}
 
 -- One more number.
 pub mount_step : (setup : List SetupLine) (number : ℕ) (holds others : Holds) (old new : List (ℕ × DiskSeen)) (tables_old tables_new : List TableSeen)
-    → ((s : Spec) → spec_number s ≡ number → holds s ≡ others s) → AreMounted others (specs_below setup number) old tables_old
+    → ((s : VolumeSpec) → volume_numbered setup number ≡ Some s → HoldsAs holds others s) → AreMounted others (specs_below setup number) old tables_old
     → MountsNumber setup number holds old new tables_old tables_new → AreMounted others (specs_below setup (number + 1)) new tables_new
-mount_step setup number holds others old new tables_old tables_new agree before h = at (disk_numbered setup number) refl h
+mount_step setup number holds others old new tables_old tables_new agree before h = at (volume_numbered setup number) refl h
   where
-    at : (o : Option Spec) → disk_numbered setup number ≡ o
+    at : (o : Option VolumeSpec) → volume_numbered setup number ≡ o
         → MatchOption o ((new ≡ old) × (tables_new ≡ tables_old)) (λ s. MountsOne holds s old new tables_old tables_new)
         → AreMounted others (specs_below setup (number + 1)) new tables_new
     at None is h =
@@ -46,15 +57,15 @@ mount_step setup number holds others old new tables_old tables_new agree before 
         subst (λ xs. AreMounted others xs new tables_new) specs
         (subst (λ ds. AreMounted others (specs_below setup number) ds tables_new) (sym h.0) (subst (λ ts. AreMounted others (specs_below setup number) old ts) (sym h.1) before))
     at (Some s) is h =
-        let same = agree s (numbered_is setup number s is) in
+        let same = agree s is in
         let pushed = mounted_push others (specs_below setup number) old tables_old s h.disk h.table before (mounted_held holds others s h.disk h.table same h.mounted) in
         subst (λ xs. AreMounted others xs new tables_new) (sym (specs_more setup number (Some s) is))
         (subst (λ ds. AreMounted others (specs_below setup number ++ s ∷ []) ds tables_new) (sym h.disks)
         (subst (λ ts. AreMounted others (specs_below setup number ++ s ∷ []) (old ++ h.disk ∷ []) ts) (sym h.tables) pushed))
 
 -- The disk of a number wasn't attached, or its table wasn't read.
-pub number_halts : (r : Result (Unit {0}) OpenStop) (setup : List SetupLine) (number : ℕ) (holds : Holds) (s : Spec) (old new : ℕ)
-    (front disks : List (ℕ × DiskSeen)) → disk_numbered setup number ≡ Some s
+pub number_halts : (r : Result (Unit {0}) OpenStop) (setup : List SetupLine) (number : ℕ) (holds : Holds) (s : VolumeSpec) (old new : ℕ)
+    (front disks : List (ℕ × DiskSeen)) → volume_numbered setup number ≡ Some s
     → IfErr r (HaltsSpec holds s old new front disks) → IfErr r (HaltsNumber setup number holds old new front disks)
 number_halts (Ok u) setup number holds s old new front disks is h = tt
 number_halts (Err how) setup number holds s old new front disks is h = inr (s, is, h)
@@ -64,9 +75,13 @@ ungiven_later number old mid new (halt.Failed f) le h = (h.0, h.1, let risen = h
 ungiven_later number old mid new halt.Memory le h = tt
 ungiven_later number old mid new (halt.Refused r) le h = absurd h
 
+-- what is held for the disks of a volume of two
+joined_same : (holds others : Holds) (s : VolumeSpec) (first second : Spec) (mirror : Bool) → s ≡ Joined first second mirror → HoldsAs holds others s → (holds first ≡ others first) × (holds second ≡ others second)
+joined_same holds others s first second mirror is same = subst (λ (x : VolumeSpec). HoldsAs holds others x) is same
+
 -- The attaching stopped at a number.
 pub halted : (setup : List SetupLine) (number : ℕ) (holds others : Holds) (old mid new : ℕ) (front disks : List (ℕ × DiskSeen)) (tables : List TableSeen) (how : OpenStop)
-    → number < 8 → ((s : Spec) → spec_number s ≡ number → holds s ≡ others s) → old ≤ mid → AreMounted others (specs_below setup number) front tables
+    → number < 8 → ((s : VolumeSpec) → volume_numbered setup number ≡ Some s → HoldsAs holds others s) → old ≤ mid → AreMounted others (specs_below setup number) front tables
     → HaltsNumber setup number holds mid new front disks how → Halts setup others old new disks how
 halted setup number holds others old mid new front disks tables how below agree le before h =
     record { number = number; below = below; front = front; tables = tables; mounted = before; cause = at h }
@@ -75,107 +90,205 @@ halted setup number holds others old mid new front disks tables how below agree 
     at (inl m) = inl m
     at (inr h) =
         let s = h.0 in
-        let same = agree s (numbered_is setup number s h.1) in
+        let same = agree s h.1 in
         inr (
           s,
           h.1,
           elim h.2 [
-            | inl b ↦ inl (record { same = b.same; cause = ungiven_later (spec_number s) old mid new how le b.cause })
-            | inr u ↦ inr (record { disk = u.disk; given = given_held holds others s u.disk same u.given; behind = u.behind; cause = u.cause })
+            | inl b ↦ inl (record { same = b.same; cause = ungiven_later (volume_number s) old mid new how le b.cause })
+            | inr more ↦ elim more [
+              | inl u ↦ inr (inl (record { disk = u.disk; given = given_held holds others s u.disk same u.given; behind = u.behind; cause = u.cause }))
+              | inr rest ↦ elim rest [
+                | inl f ↦
+                    let both = joined_same holds others s f.first f.second f.mirror f.joined same in
+                    inr (inr (inl (record {
+                      first = f.first;
+                      second = f.second;
+                      mirror = f.mirror;
+                      joined = f.joined;
+                      disk = f.disk;
+                      given = given_held holds others (Plain f.first) f.disk both.0 f.given;
+                      behind = f.behind;
+                      cause = ungiven_later (spec_number f.second) old mid new how le f.cause;
+                    })))
+                | inr u ↦
+                    let both = joined_same holds others s u.first u.second u.mirror u.joined same in
+                    inr (inr (inr (record {
+                      first = u.first;
+                      second = u.second;
+                      mirror = u.mirror;
+                      joined = u.joined;
+                      a = u.a;
+                      b = u.b;
+                      one = given_held holds others (Plain u.first) u.a both.0 u.one;
+                      two = given_held holds others (Plain u.second) u.b both.1 u.two;
+                      one_whole = u.one_whole;
+                      two_whole = u.two_whole;
+                      behind = u.behind;
+                      cause = u.cause;
+                    })))
+              ]
+            ]
           ],
         )
 
-pub opened_err : (plan : PlanSeen) (holds : Holds) (r : Refusal) → mounted_files (disks_held holds (disk_specs plan.setup)) ≡ Err r → opened_files plan holds ≡ Err r
+pub opened_err : (plan : PlanSeen) (holds : Holds) (r : Refusal) → mounted_files holds (setup_volumes plan.setup) ≡ Err r → opened_files plan holds ≡ Err r
 opened_err plan holds r e =
-    ap (λ (m : Result (List OpenedFile) Refusal). with_line_files (size_held (disks_held holds (disk_specs plan.setup))) (if_few m) plan.setup) e
+    ap (λ (m : Result (List OpenedFile) Refusal). with_line_files (size_held (volumes_held holds (setup_volumes plan.setup))) (if_few m) plan.setup) e
 
--- What is handed back where the disks of the numbers below one are attached.
-module _ (plan : PlanSeen) (holds : Holds) (swap : Option DiskSeen) (swaps : IsSwapFor (amounts_of plan.setup).slots swap) (m k : ℕ) (count : m + k ≡ 8)
-    (disks : List (ℕ × DiskSeen)) (given : AreGiven holds (specs_below plan.setup m) disks) where
+-- the fault of two sizes by the tests
+abbrev fault_by : ℕ → ℕ → Bool → Bool → Bool → Option VolumeStop
+fault_by first second x y z = if x then (if y then (if z then None else Some unfit.Unequal) else Some (unfit.Size second)) else Some (unfit.Size first)
+
+other_push : (number : ℕ) (specs : List VolumeSpec) (s : VolumeSpec) → AreOther number specs → volume_number s ≢ number → AreOther number (specs ++ s ∷ [])
+other_push number [] s other ne = (ne, tt)
+other_push number (x ∷ specs) s other ne = (other.0, other_push number specs s other.1 ne)
+
+all_two : (disks : List DiskSeen) (a b : DiskSeen) → All Told (disks ++ a ∷ b ∷ []) → All Told disks × (Told a × Told b)
+all_two disks a b told =
+    let last = all_last (disks ++ a ∷ []) b (subst (λ (ds : List DiskSeen). All Told ds) (sym (append_assoc disks (a ∷ []) (b ∷ []))) told) in
+    let rest = all_last disks a last.0 in
+    (rest.0, (rest.1, last.1))
+
+some-same : (q r : Refusal) → Some q ≡ Some r → q ≡ r
+some-same q r e = cc e
+
+-- the volumes below a number, and what stands at its place
+below_front : (plan : PlanSeen) (m k : ℕ) → m + k ≡ 8 → take (length (specs_below plan.setup m)) (volume_specs plan) ≡ specs_below plan.setup m
+below_front plan m k all = ap (take (length (specs_below plan.setup m))) (specs_split plan.setup m k 8 all) ∙ take-append_seam (specs_below plan.setup m) (specs_from plan.setup m k)
+
+below_place : (plan : PlanSeen) (m k : ℕ) → m + suc k ≡ 8 → (s : VolumeSpec) → volume_numbered plan.setup m ≡ Some s → slice_get (volume_specs plan) (length (specs_below plan.setup m)) ≡ Some s
+below_place plan m k all s is =
+    ap (λ (xs : List VolumeSpec). slice_get xs (length (specs_below plan.setup m)))
+    (specs_split plan.setup m (suc k) 8 all ∙ ap (λ (o : Option VolumeSpec). specs_below plan.setup m ++ cons_option o (specs_from plan.setup (m + 1) k)) is)
+    ∙ slice_get-append_seam (specs_below plan.setup m) s (specs_from plan.setup (m + 1) k)
+  where
+    slice_get-append_seam : (xs : List VolumeSpec) (y : VolumeSpec) (ys : List VolumeSpec) → slice_get (xs ++ y ∷ ys) (length xs) ≡ Some y
+    slice_get-append_seam [] y ys = refl
+    slice_get-append_seam (x ∷ xs) y ys = slice_get-append_seam xs y ys
+
+-- What is handed back: the volumes below a number, and some of the disks of the next one.
+module _ (plan : PlanSeen) (holds : Holds) (swap : Option DiskSeen) (swaps : IsSwapFor (amounts_of plan.setup).slots swap) (blank : IsSwapAsGiven (amounts_of plan.setup).slots swap)
+    (m k : ℕ) (all : m + k ≡ 8) (apart : ℕ) (specs : List VolumeSpec) (is : handed_specs plan (length (specs_below plan.setup m)) apart ≡ specs)
+    (disks : List (ℕ × DiskSeen)) (given : AreGiven holds specs disks) where
+  sizes : HaveSpecSizes (handed_specs plan (length (specs_below plan.setup m)) apart) (bare_disks disks)
+  sizes = subst (λ (xs : List VolumeSpec). HaveSpecSizes xs (bare_disks disks)) (sym is) (given_sizes holds specs disks given)
+
   pub hands_front : HandsFront plan (bare_disks disks) swap
   hands_front = record {
-    each = subst (λ xs. HaveSpecSizes (take (length (bare_disks disks)) xs) (bare_disks disks)) (sym (specs_split plan.setup m k 8 count))
-        (front_sizes holds (specs_below plan.setup m) (specs_from plan.setup m k) disks given);
+    whole = length (specs_below plan.setup m);
+    apart = apart;
+    each = sizes;
     first = swap_front (amounts_of plan.setup).slots swap swaps;
     before = λ some. swaps;
   }
 
-  pub hands_below : (p : ℕ → Bool) → ((x : ℕ) → x < m → p x ≡ true) → ((x : ℕ) → m ≤ x → p x ≡ false) → HandsBelow plan p (bare_disks disks) swap
+  pub hands_below : (p : ℕ → Bool) → ((x : ℕ) → x < m → p x ≡ true) → ((x : ℕ) → m ≤ x → p x ≡ false) → HandsBelow plan p apart (bare_disks disks) swap
   hands_below p passing failing = record {
-    each = hands_front;
+    each = subst (λ (n : ℕ). HaveSpecSizes (handed_specs plan n apart) (bare_disks disks)) (sym (count_below p plan.setup m k all passing failing)) sizes;
     first = swaps;
-    count = given_length holds (specs_below plan.setup m) disks given ∙ sym (count_below p plan.setup m k count passing failing);
   }
 
-not_eight : (number : ℕ) → number < 8 → (number == 8) ≡ false
-not_eight number lt = grind (arith, nat_tests, lt)
+  pub untouched : AreUntouched plan holds (bare_disks disks) swap
+  untouched = record {
+    whole = length (specs_below plan.setup m);
+    apart = apart;
+    count = given_length holds specs disks given ∙ ap (λ (xs : List VolumeSpec). length xs) (sym is);
+    each = subst (λ (xs : List VolumeSpec). AreAsGiven holds xs (bare_disks disks)) (sym is) (as-given holds specs disks given);
+    last = blank;
+  }
 
 module _ (plan : PlanSeen) (holds : Holds) (old new : ℕ) (swap : Option DiskSeen) (swaps : IsSwapFor (amounts_of plan.setup).slots swap)
     (blank : IsSwapAsGiven (amounts_of plan.setup).slots swap) (number k : ℕ) (all : number + suc k ≡ 8)
     (front : List (ℕ × DiskSeen)) (tables : List TableSeen) (before : AreMounted holds (specs_below plan.setup number) front tables) where
-  -- nothing was written
-  untouched : (m rest : ℕ) → m + rest ≡ 8 → (disks : List (ℕ × DiskSeen)) → AreGiven holds (specs_below plan.setup m) disks → AreUntouched plan holds (bare_disks disks) swap
-  untouched m rest count disks given = record {
-    each = subst (λ xs. AreAsGiven holds xs (bare_disks disks)) (sym (specs_split plan.setup m rest 8 count)) (as-given holds (specs_below plan.setup m) (specs_from plan.setup m rest) disks given);
-    last = blank;
-  }
+  abbrev below : List VolumeSpec
+  below = specs_below plan.setup number
+
+  given_front : AreGiven holds below front
+  given_front = given_of_mounted holds below front tables before
+
+  whole_only : handed_specs plan (length below) 0 ≡ below
+  whole_only = append-nil (take (length below) (volume_specs plan)) ∙ below_front plan number (suc k) all
+
+  -- the volumes before have files
+  none_breaks : (n : ℕ) (s : VolumeSpec) → volume_numbered plan.setup number ≡ Some s → HasDiskNumbered n s → All Told (bare_disks front) → NoneBreaksBefore plan holds n
+  none_breaks n s is has told =
+      let ok = mounted_ok holds below front tables before told in
+      inr (
+        length below,
+        subst (λ (o : Option VolumeSpec). IsSomeAnd o (HasDiskNumbered n)) (sym (below_place plan number k all s is)) has,
+        subst (λ (r : Result (List OpenedFile) Refusal). IsOk r) (sym (ap (mounted_files holds) (below_front plan number (suc k) all) ∙ ok.1)) refl,
+      )
 
   unasked_stop : HandsStopped plan (bare_disks front) swap halt.Memory × StopCause plan holds old new (bare_disks front) swap halt.Memory
-  unasked_stop =
-      let given = given_of_mounted holds (specs_below plan.setup number) front tables before in
-      (hands_front plan holds swap swaps number (suc k) all front given, untouched number (suc k) all front given)
+  unasked_stop = (
+    hands_front plan holds swap swaps blank number (suc k) all 0 below whole_only front given_front,
+    untouched plan holds swap swaps blank number (suc k) all 0 below whole_only front given_front,
+  )
 
-  module _ (s : Spec) (is : disk_numbered plan.setup number ≡ Some s) where
-    specs_now : disk_specs plan.setup ≡ specs_below plan.setup number ++ (s ∷ specs_from plan.setup (number + 1) k)
-    specs_now = specs_split plan.setup number (suc k) 8 all ∙ ap (λ (o : Option Spec). specs_below plan.setup number ++ cons_option o (specs_from plan.setup (number + 1) k)) is
+  module _ (s : VolumeSpec) (is : volume_numbered plan.setup number ≡ Some s) where
+    specs_now : setup_volumes plan.setup ≡ below ++ (s ∷ specs_from plan.setup (number + 1) k)
+    specs_now = specs_split plan.setup number (suc k) 8 all ∙ ap (λ (o : Option VolumeSpec). below ++ cons_option o (specs_from plan.setup (number + 1) k)) is
 
-    numbers_now : disk_numbers plan ≡ map spec_number (specs_below plan.setup number) ++ number ∷ map spec_number (specs_from plan.setup (number + 1) k)
-    numbers_now = ap (map spec_number) specs_now
-        ∙ (map-append spec_number (specs_below plan.setup number) (s ∷ specs_from plan.setup (number + 1) k)
-        ∙ ap (λ n. map spec_number (specs_below plan.setup number) ++ n ∷ map spec_number (specs_from plan.setup (number + 1) k)) (numbered_is plan.setup number s is))
+    numbers_now : volume_numbers plan ≡ map volume_number below ++ number ∷ map volume_number (specs_from plan.setup (number + 1) k)
+    numbers_now = ap (map volume_number) specs_now
+        ∙ (map-append volume_number below (s ∷ specs_from plan.setup (number + 1) k)
+        ∙ ap (λ n. map volume_number below ++ n ∷ map volume_number (specs_from plan.setup (number + 1) k)) (volume_is plan.setup number s is))
 
-    named : Contains (disk_numbers plan) number
+    named : Contains (volume_numbers plan) number
     named = subst (λ ns. Contains ns number) (sym numbers_now)
-        (Contains-append_right (map spec_number (specs_below plan.setup number)) (number ∷ map spec_number (specs_from plan.setup (number + 1) k)) number (0, omega arith, refl))
+        (Contains-append_right (map volume_number below) (number ∷ map volume_number (specs_from plan.setup (number + 1) k)) number (0, omega arith, refl))
 
-    bare_stop : (how : OpenStop) → UngivenCause (spec_number s) old new how → HandsStopped plan (bare_disks front) swap how × StopCause plan holds old new (bare_disks front) swap how
+    among : Contains (volume_specs plan) s
+    among = subst (λ (xs : List VolumeSpec). Contains xs s) (sym specs_now) (Contains-append_right below (s ∷ specs_from plan.setup (number + 1) k) s (0, omega arith, refl))
+
+    handed_below : HandsBelow plan (λ n. nat_lt n number) 0 (bare_disks front) swap
+    handed_below =
+        hands_below plan holds swap swaps blank number (suc k) all 0 below whole_only front given_front (λ n. nat_lt n number) (λ x lt. grind (arith, nat_tests, lt)) (λ x le. grind (arith, nat_tests, le))
+
+    -- the rack failed at a disk of the volume
+    unracked_stop : (disks : List DiskSeen) (n : ℕ) (f : OpenFaultSeen) → f.disk ≡ n → f.counts ≡ None → HasRisen old new → HandsUnracked plan disks swap n → HasDiskNumbered n s
+        → (HaveTold disks swap → All Told (bare_disks front)) → AreUntouched plan holds disks swap
+        → HandsStopped plan disks swap (halt.Failed f) × StopCause plan holds old new disks swap (halt.Failed f)
+    unracked_stop disks n f at none risen handed has told same = (
+      tt,
+      inl (
+        subst (λ o. MatchOption o (HasRisen old new) (λ counts. IsCountedBy plan disks swap f.disk counts.0 counts.1)) (sym none) risen,
+        record {
+          handed = subst (λ o. MatchOption o (HandsUnracked plan disks swap f.disk) (λ counts. HandsBelow plan (λ n. nat_le n f.disk) 0 disks swap)) (sym none)
+              (subst (λ (x : ℕ). HandsUnracked plan disks swap x) (sym at) handed);
+          first = λ tells. subst (NoneBreaksBefore plan holds) (sym at) (none_breaks n s is has (told tells));
+          same = same;
+        },
+      ),
+    )
+
+    bare_stop : (how : OpenStop) → UngivenCause (volume_number s) old new how → HandsStopped plan (bare_disks front) swap how × StopCause plan holds old new (bare_disks front) swap how
     bare_stop (halt.Failed f) c =
-        let given = given_of_mounted holds (specs_below plan.setup number) front tables before in
-        let below : HandsBelow plan (λ n. nat_lt n number) (bare_disks front) swap =
-        hands_below plan holds swap swaps number (suc k) all front given (λ n. nat_lt n number) (λ x lt. grind (arith, nat_tests, lt)) (λ x le. grind (arith, nat_tests, le)) in
-        let lt : number < 8 = omega (arith, all) in
-        let unracked : HandsUnracked plan (bare_disks front) swap number =
-        subst (λ b. MatchBool b ((0 < (amounts_of plan.setup).slots) × HandsNone (bare_disks front) swap)
-        (Contains (disk_numbers plan) number × HandsBelow plan (λ n. nat_lt n number) (bare_disks front) swap))
-        (sym (not_eight number lt)) (named, below) in
-        let same : number ≡ f.disk = sym (c.0 ∙ numbered_is plan.setup number s is) in
-        let at_disk : HandsUnracked plan (bare_disks front) swap f.disk = subst (λ n. HandsUnracked plan (bare_disks front) swap n) same unracked in (
-          tt,
-          inl (
-            subst (λ o. MatchOption o (HasRisen old new) (λ counts. IsCountedBy plan (bare_disks front) swap f.disk counts.0 counts.1)) (sym c.1) c.2,
-            record {
-              handed = subst (λ o. MatchOption o (HandsUnracked plan (bare_disks front) swap f.disk) (λ counts. HandsBelow plan (λ n. nat_le n f.disk) (bare_disks front) swap)) (sym c.1) at_disk;
-              first = λ told n rule broken.
-                  let le = broken-behind plan holds number (suc k) all front tables before told.each n rule broken in
-                  inr (omega (arith, le, same));
-              same = untouched number (suc k) all front given;
-            },
-          ),
-        )
+        unracked_stop (bare_disks front) number f (c.0 ∙ volume_is plan.setup number s is) c.1 c.2 (inr (inl (named, handed_below))) (inl (volume_is plan.setup number s is)) (λ tells. tells.each)
+        (untouched plan holds swap swaps blank number (suc k) all 0 below whole_only front given_front)
     bare_stop halt.Memory c = unasked_stop
     bare_stop (halt.Refused r) c = absurd c
 
     module _ (d : ℕ × DiskSeen) (given : IsGiven holds s d) where
-      given_now : AreGiven holds (specs_below plan.setup (number + 1)) (front ++ d ∷ [])
-      given_now = subst (λ xs. AreGiven holds xs (front ++ d ∷ [])) (sym (specs_more plan.setup number (Some s) is))
-          (given_push holds (specs_below plan.setup number) front s d (given_of_mounted holds (specs_below plan.setup number) front tables before) given)
+      abbrev upto_specs : List VolumeSpec
+      upto_specs = specs_below plan.setup (number + 1)
 
       all_now : (number + 1) + k ≡ 8
       all_now = omega (arith, all)
 
-      upto : (n : ℕ) → n ≡ number → HandsBelow plan (λ x. nat_le x n) (bare_disks (front ++ d ∷ [])) swap
-      upto n e = hands_below plan holds swap swaps (number + 1) k all_now (front ++ d ∷ []) given_now (λ x. nat_le x n)
+      given_now : AreGiven holds upto_specs (front ++ d ∷ [])
+      given_now = subst (λ xs. AreGiven holds xs (front ++ d ∷ [])) (sym (specs_more plan.setup number (Some s) is)) (given_push holds below front s d given_front given)
+
+      whole_now : handed_specs plan (length upto_specs) 0 ≡ upto_specs
+      whole_now = append-nil (take (length upto_specs) (volume_specs plan)) ∙ below_front plan (number + 1) k all_now
+
+      upto : (n : ℕ) → n ≡ number → HandsBelow plan (λ x. nat_le x n) 0 (bare_disks (front ++ d ∷ [])) swap
+      upto n e = hands_below plan holds swap swaps blank (number + 1) k all_now 0 upto_specs whole_now (front ++ d ∷ []) given_now (λ x. nat_le x n)
           (λ x lt. grind (arith, nat_tests, lt, e)) (λ x le. grind (arith, nat_tests, le, e))
+
+      still : AreUntouched plan holds (bare_disks (front ++ d ∷ [])) swap
+      still = untouched plan holds swap swaps blank (number + 1) k all_now 0 upto_specs whole_now (front ++ d ∷ []) given_now
 
       bare_now : bare_disks (front ++ d ∷ []) ≡ bare_disks front ++ d.1 ∷ []
       bare_now = map-append (λ (x : ℕ × DiskSeen). x.1) front (d ∷ [])
@@ -185,52 +298,223 @@ module _ (plan : PlanSeen) (holds : Holds) (old new : ℕ) (swap : Option DiskSe
       refused n rule e breaks told =
           let each = all_last (bare_disks front) d.1 (subst (λ ds. All Told ds) bare_now told.each) in
           let here = mounted_here holds s (specs_from plan.setup (number + 1) k) d.1 rule given.attached each.1 breaks in
-          let later = mounted_err holds (specs_below plan.setup number) (s ∷ specs_from plan.setup (number + 1) k) front tables (refusal.Volume (spec_number s) rule) before each.0 here in
-          let whole : mounted_files (disks_held holds (disk_specs plan.setup)) ≡ Err (refusal.Volume (spec_number s) rule) = ap (λ xs. mounted_files (disks_held holds xs)) specs_now ∙ later in
-          let name : spec_number s ≡ n = numbered_is plan.setup number s is ∙ sym e in
+          let later = mounted_err holds below (s ∷ specs_from plan.setup (number + 1) k) front tables (refusal.Volume (volume_number s) rule) before each.0 here in
+          let whole : mounted_files holds (setup_volumes plan.setup) ≡ Err (refusal.Volume (volume_number s) rule) = ap (mounted_files holds) specs_now ∙ later in
+          let name : volume_number s ≡ n = volume_is plan.setup number s is ∙ sym e in
           opened_err plan holds (refusal.Volume n rule) (whole ∙ ap (λ x. Err (refusal.Volume x rule)) name)
+
+      low_below : AreOther number below
+      low_below = let le : 0 + number ≤ number = omega arith in low_other number below (low_specs plan.setup number 0 number le)
+
+      lt_eight : (number == 8) ≡ false
+      lt_eight = let lt : number < 8 = omega (arith, all) in grind (arith, nat_tests, lt)
 
       found_now : disk_handed plan (bare_disks (front ++ d ∷ [])) swap number ≡ Some d.1
       found_now =
-          let lt : number < 8 = omega (arith, all) in
-          let low : 0 + number ≤ number = omega arith in
-          ap (λ b. if b then swap else lookup (λ n. n == number) (zip (disk_numbers plan) (bare_disks (front ++ d ∷ [])))) (not_eight number lt)
+          ap (λ b. if b then swap else lookup (λ n. n == number) (zip (volume_numbers plan) (bare_disks (front ++ d ∷ [])))) lt_eight
           ∙ (ap (λ ns. lookup (λ n. n == number) (zip ns (bare_disks (front ++ d ∷ [])))) numbers_now
-          ∙ (ap (λ ds. lookup (λ n. n == number) (zip (map spec_number (specs_below plan.setup number) ++ number ∷ map spec_number (specs_from plan.setup (number + 1) k)) ds)) bare_now
-          ∙ lookup_given holds (specs_below plan.setup number) front number d.1 (map spec_number (specs_from plan.setup (number + 1) k))
-          (given_of_mounted holds (specs_below plan.setup number) front tables before) (low_specs plan.setup number 0 number low)))
+          ∙ (ap (λ ds. lookup (λ n. n == number) (zip (map volume_number below ++ number ∷ map volume_number (specs_from plan.setup (number + 1) k)) ds)) bare_now
+          ∙ lookup_given holds below front number d.1 (map volume_number (specs_from plan.setup (number + 1) k)) [] given_front low_below))
+
+      upto_numbers : map volume_number upto_specs ≡ map volume_number below ++ number ∷ []
+      upto_numbers = ap (map volume_number) (specs_more plan.setup number (Some s) is) ∙ map-append volume_number below (s ∷ [])
+          ∙ ap (λ (n : ℕ). map volume_number below ++ n ∷ []) (volume_is plan.setup number s is)
+
+      stopped_now : disk_stopped plan (length upto_specs) 0 (bare_disks (front ++ d ∷ [])) number ≡ Some d.1
+      stopped_now =
+          ap (λ (xs : List VolumeSpec). lookup (λ n. n == number) (zip (map volume_number xs) (bare_disks (front ++ d ∷ [])))) whole_now
+          ∙ (ap (λ ns. lookup (λ n. n == number) (zip ns (bare_disks (front ++ d ∷ [])))) upto_numbers
+          ∙ (ap (λ ds. lookup (λ n. n == number) (zip (map volume_number below ++ number ∷ []) ds)) bare_now ∙ lookup_given holds below front number d.1 [] [] given_front low_below))
 
       unread_stop : (how : OpenStop) → UnreadCause d how → HandsStopped plan (bare_disks (front ++ d ∷ [])) swap how × StopCause plan holds old new (bare_disks (front ++ d ∷ [])) swap how
       unread_stop (halt.Refused (refusal.Volume n rule)) c =
-          let e : n ≡ number = c.0 ∙ (given.number ∙ numbered_is plan.setup number s is) in
-          let found : disk_handed plan (bare_disks (front ++ d ∷ [])) swap n ≡ Some d.1 = ap (disk_handed plan (bare_disks (front ++ d ∷ [])) swap) e ∙ found_now in (
-            upto n e,
+          let e : n ≡ number = c.0 ∙ (given.number ∙ volume_is plan.setup number s is) in (
+            inl (upto n e),
             record {
               told = λ told. refused n rule e c.1 told;
-              line = subst (λ (o : Option DiskSeen). IsSomeAnd o (λ x. HasBadTable x.size rule)) (sym found) c.2;
-              same = untouched (number + 1) k all_now (front ++ d ∷ []) given_now;
+              line = (
+                length upto_specs,
+                0,
+                subst (λ (o : Option DiskSeen). IsSomeAnd o (λ x. HasBadTable x.size rule)) (sym (ap (disk_stopped plan (length upto_specs) 0 (bare_disks (front ++ d ∷ []))) e ∙ stopped_now)) c.2,
+              );
+              same = still;
             },
           )
       unread_stop (halt.Failed f) c =
-          let e : f.disk ≡ number = c.number ∙ (given.number ∙ numbered_is plan.setup number s is) in
+          let e : f.disk ≡ number = c.number ∙ (given.number ∙ volume_is plan.setup number s is) in
           let found : disk_handed plan (bare_disks (front ++ d ∷ [])) swap f.disk ≡ Some d.1 = ap (disk_handed plan (bare_disks (front ++ d ∷ [])) swap) e ∙ found_now in (
             tt,
             inl (
               if-counted (HasRisen old new) (λ counts. IsCountedBy plan (bare_disks (front ++ d ∷ [])) swap f.disk counts.0 counts.1)
                   f.counts c.risen (record { risen = c.risen; disk = d.1; back = found; last = c.last }),
               record {
-                handed = if-counted (HandsUnracked plan (bare_disks (front ++ d ∷ [])) swap f.disk) (λ counts. HandsBelow plan (λ n. nat_le n f.disk) (bare_disks (front ++ d ∷ [])) swap)
+                handed = if-counted (HandsUnracked plan (bare_disks (front ++ d ∷ [])) swap f.disk) (λ counts. HandsBelow plan (λ n. nat_le n f.disk) 0 (bare_disks (front ++ d ∷ [])) swap)
                     f.counts c.risen (upto f.disk e);
-                first = λ told n rule broken.
+                first = λ told.
                     let each = all_last (bare_disks front) d.1 (subst (λ ds. All Told ds) bare_now told.each) in
-                    let le = broken-behind plan holds number (suc k) all front tables before each.0 n rule broken in
-                    inr (omega (arith, le, e));
-                same = untouched (number + 1) k all_now (front ++ d ∷ []) given_now;
+                    none_breaks f.disk s is (inl (volume_is plan.setup number s is ∙ sym e)) each.0;
+                same = still;
               },
             ),
           )
-      unread_stop halt.Memory c = (hands_front plan holds swap swaps (number + 1) k all_now (front ++ d ∷ []) given_now, untouched (number + 1) k all_now (front ++ d ∷ []) given_now)
+      unread_stop halt.Memory c = (hands_front plan holds swap swaps blank (number + 1) k all_now 0 upto_specs whole_now (front ++ d ∷ []) given_now, still)
       unread_stop (halt.Refused (refusal.Rule n)) c = absurd c
+
+    -- the volume stands for two disks
+    module _ (first second : Spec) (mirror : Bool) (joined : s ≡ Joined first second mirror) where
+      some-apart : (n : ℕ) → handed_specs plan (length below) n ≡ below ++ take n (Plain first ∷ Plain second ∷ [])
+      some-apart n =
+          ap (λ (o : Option VolumeSpec). take (length below) (volume_specs plan) ++ take n (disks_apart o)) (below_place plan number k all s is ∙ ap (λ (x : VolumeSpec). Some x) joined)
+          ∙ ap (λ (xs : List VolumeSpec). xs ++ take n (Plain first ∷ Plain second ∷ [])) (below_front plan number (suc k) all)
+
+      first_number : spec_number first ≡ number
+      first_number = ap volume_number (sym joined) ∙ volume_is plan.setup number s is
+
+      apart_from : (n : ℕ) (disks : List DiskSeen) → HandsBelow plan (λ x. nat_lt x number) n disks swap → HandsApart plan first second n disks swap
+      apart_from n disks handed = record {
+        mirror = mirror;
+        there = subst (λ (x : VolumeSpec). Contains (volume_specs plan) x) joined among;
+        handed = subst (λ (y : ℕ). HandsBelow plan (λ x. nat_lt x y) n disks swap) (sym first_number) handed;
+      }
+
+      -- the rack failed at the second disk
+      module _ (d : ℕ × DiskSeen) (given : IsGiven holds (Plain first) d) where
+        first_given : AreGiven holds (below ++ Plain first ∷ []) (front ++ d ∷ [])
+        first_given = given_push holds below front (Plain first) d given_front given
+
+        first_still : AreUntouched plan holds (bare_disks (front ++ d ∷ [])) swap
+        first_still = untouched plan holds swap swaps blank number (suc k) all 1 (below ++ Plain first ∷ []) (some-apart 1) (front ++ d ∷ []) first_given
+
+        first_handed : HandsBelow plan (λ n. nat_lt n number) 1 (bare_disks (front ++ d ∷ [])) swap
+        first_handed = hands_below plan holds swap swaps blank number (suc k) all 1 (below ++ Plain first ∷ []) (some-apart 1) (front ++ d ∷ []) first_given (λ n. nat_lt n number)
+            (λ x lt. grind (arith, nat_tests, lt)) (λ x le. grind (arith, nat_tests, le))
+
+        first_stop : (how : OpenStop) → UngivenCause (spec_number second) old new how
+            → HandsStopped plan (bare_disks (front ++ d ∷ [])) swap how × StopCause plan holds old new (bare_disks (front ++ d ∷ [])) swap how
+        first_stop (halt.Failed f) c =
+            unracked_stop (bare_disks (front ++ d ∷ [])) (spec_number second) f c.0 c.1 c.2 (inr (inr (first, second, refl, apart_from 1 (bare_disks (front ++ d ∷ [])) first_handed)))
+            (inr (subst (λ (x : VolumeSpec). IsSomeAnd (second_spec x) (λ y. spec_number y ≡ spec_number second)) (sym joined) refl))
+            (λ tells. (all_last (bare_disks front) d.1 (subst (λ ds. All Told ds) (map-append (λ (x : ℕ × DiskSeen). x.1) front (d ∷ [])) tells.each)).0) first_still
+        first_stop halt.Memory c = (hands_front plan holds swap swaps blank number (suc k) all 1 (below ++ Plain first ∷ []) (some-apart 1) (front ++ d ∷ []) first_given, first_still)
+        first_stop (halt.Refused r) c = absurd c
+
+      -- the two weren't joined
+      module _ (a b : ℕ × DiskSeen) (one : IsGiven holds (Plain first) a) (two : IsGiven holds (Plain second) b) (one_whole : HasBlocks a.1.content a.1.size) (two_whole : HasBlocks b.1.content b.1.size)
+          (other : AreOther (spec_number second) below) (apart : spec_number first ≢ spec_number second) where
+        abbrev both : List (ℕ × DiskSeen)
+        both = front ++ a ∷ b ∷ []
+
+        abbrev both_specs : List VolumeSpec
+        both_specs = below ++ Plain first ∷ Plain second ∷ []
+
+        both_given : AreGiven holds both_specs both
+        both_given =
+            let first_in = given_push holds below front (Plain first) a given_front one in
+            let second_in = given_push holds (below ++ Plain first ∷ []) (front ++ a ∷ []) (Plain second) b first_in two in
+            subst (λ (ds : List (ℕ × DiskSeen)). AreGiven holds both_specs ds) (append_assoc front (a ∷ []) (b ∷ []))
+            (subst (λ (xs : List VolumeSpec). AreGiven holds xs ((front ++ a ∷ []) ++ b ∷ [])) (append_assoc below (Plain first ∷ []) (Plain second ∷ [])) second_in)
+
+        both_still : AreUntouched plan holds (bare_disks both) swap
+        both_still = untouched plan holds swap swaps blank number (suc k) all 2 both_specs (some-apart 2) both both_given
+
+        both_handed : HandsApart plan first second 2 (bare_disks both) swap
+        both_handed = apart_from 2 (bare_disks both) (hands_below plan holds swap swaps blank number (suc k) all 2 both_specs (some-apart 2) both both_given (λ n. nat_lt n number)
+            (λ x lt. grind (arith, nat_tests, lt)) (λ x le. grind (arith, nat_tests, le)))
+
+        bare_both : bare_disks both ≡ bare_disks front ++ a.1 ∷ b.1 ∷ []
+        bare_both = map-append (λ (x : ℕ × DiskSeen). x.1) front (a ∷ b ∷ [])
+
+        -- the rule that the sizes break, where all tell
+        sizes_told : (r : Refusal) → option_and_then size_refusal (size_fault (a.0, a.1.size) (b.0, b.1.size)) ≡ Some r → HaveTold (bare_disks both) swap → opened_files plan holds ≡ Err r
+        sizes_told r e told =
+            let last = all_two (bare_disks front) a.1 b.1 (subst (λ ds. All Told ds) bare_both told.each) in
+            let one_held = spec_long first holds a.1 one.attached (spec_tells first holds a.1 one.attached last.1.0) one_whole in
+            let two_held = spec_long second holds b.1 two.attached (spec_tells second holds b.1 two.attached last.1.1) two_whole in
+            let refused : sizes_refused holds s ≡ Some r =
+            ap (sizes_refused holds) joined
+            ∙ ap (option_and_then size_refusal)
+            (ap (λ (x : ℕ × ℕ). size_fault x (held_size holds second)) (λ i. (sym one.number i, one_held i)) ∙ ap (size_fault (a.0, a.1.size)) (λ i. (sym two.number i, two_held i))) ∙ e in
+            let later = mounted_err holds below (s ∷ specs_from plan.setup (number + 1) k) front tables r before last.0 (unfit_here holds s (specs_from plan.setup (number + 1) k) r refused) in
+            opened_err plan holds r (ap (mounted_files holds) specs_now ∙ later)
+
+        both_numbers : map volume_number both_specs ≡ map volume_number below ++ spec_number first ∷ spec_number second ∷ []
+        both_numbers = map-append volume_number below (Plain first ∷ Plain second ∷ [])
+
+        first_other : AreOther (spec_number first) below
+        first_other = let le : 0 + number ≤ spec_number first = let e = first_number in omega (arith, e) in low_other (spec_number first) below (low_specs plan.setup (spec_number first) 0 number le)
+
+        first_found : disk_stopped plan (length below) 2 (bare_disks both) (spec_number first) ≡ Some a.1
+        first_found =
+            ap (λ (xs : List VolumeSpec). lookup (λ n. n == spec_number first) (zip (map volume_number xs) (bare_disks both))) (some-apart 2)
+            ∙ (ap (λ ns. lookup (λ n. n == spec_number first) (zip ns (bare_disks both))) both_numbers
+            ∙ (ap (λ ds. lookup (λ n. n == spec_number first) (zip (map volume_number below ++ spec_number first ∷ spec_number second ∷ []) ds)) bare_both
+            ∙ lookup_given holds below front (spec_number first) a.1 (spec_number second ∷ []) (b.1 ∷ []) given_front first_other))
+
+        second_found : disk_stopped plan (length below) 2 (bare_disks both) (spec_number second) ≡ Some b.1
+        second_found =
+            let front_given = given_push holds below front (Plain first) a given_front one in
+            let front_other = other_push (spec_number second) below (Plain first) other apart in
+            ap (λ (xs : List VolumeSpec). lookup (λ n. n == spec_number second) (zip (map volume_number xs) (bare_disks both))) (some-apart 2 ∙ sym (append_assoc below (Plain first ∷ []) (Plain second ∷ [])))
+            ∙ (ap (λ ns. lookup (λ n. n == spec_number second) (zip ns (bare_disks both))) (map-append volume_number (below ++ Plain first ∷ []) (Plain second ∷ []))
+            ∙ (ap (λ (ds : List (ℕ × DiskSeen)). lookup (λ n. n == spec_number second) (zip (map volume_number (below ++ Plain first ∷ []) ++ spec_number second ∷ []) (bare_disks ds))) (sym (append_assoc front (a ∷ []) (b ∷ [])))
+            ∙ (ap (λ ds. lookup (λ n. n == spec_number second) (zip (map volume_number (below ++ Plain first ∷ []) ++ spec_number second ∷ []) ds)) (map-append (λ (x : ℕ × DiskSeen). x.1) (front ++ a ∷ []) (b ∷ []))
+            ∙ lookup_given holds (below ++ Plain first ∷ []) (front ++ a ∷ []) (spec_number second) b.1 [] [] front_given front_other)))
+
+        bad_table : (size : ℕ) → is_volume_size size ≡ false → HasBadTable size 0
+        bad_table size bad = (replicate 4096 0, length-replicate {A = ℕ} 4096 0, size-bad (replicate 4096 0) size bad)
+
+        size_line : (n : ℕ) (x : DiskSeen) → disk_stopped plan (length below) 2 (bare_disks both) n ≡ Some x → is_volume_size x.size ≡ false
+            → BreaksLine plan holds (bare_disks both) swap (refusal.Volume n 0)
+        size_line n x found bad = (length below, 2, subst (λ (o : Option DiskSeen). IsSomeAnd o (λ y. HasBadTable y.size 0)) (sym found) (bad_table x.size bad))
+
+        abbrev Unfit : OpenStop → Type 0
+        Unfit how = HandsStopped plan (bare_disks both) swap how × StopCause plan holds old new (bare_disks both) swap how
+
+        unfit_size : (n : ℕ) (x : DiskSeen) → ((spec_number first ≡ n) ⊎ (spec_number second ≡ n)) → disk_stopped plan (length below) 2 (bare_disks both) n ≡ Some x → is_volume_size x.size ≡ false
+            → option_and_then size_refusal (size_fault (a.0, a.1.size) (b.0, b.1.size)) ≡ Some (refusal.Volume n 0) → Unfit (halt.Refused (refusal.Volume n 0))
+        unfit_size n x which found bad e = (
+          inr (first, second, which, both_handed),
+          record { told = sizes_told (refusal.Volume n 0) e; line = size_line n x found bad; same = both_still },
+        )
+
+        unfit_differ : a.1.size ≢ b.1.size → option_and_then size_refusal (size_fault (a.0, a.1.size) (b.0, b.1.size)) ≡ Some (refusal.Rule 15) → Unfit (halt.Refused (refusal.Rule 15))
+        unfit_differ differ e = (
+          inr (refl, (first, second, both_handed)),
+          record { told = sizes_told (refusal.Rule 15) e; line = inr (refl, (bare_disks front, a.1, b.1, bare_both, differ)); same = both_still },
+        )
+
+        unfit_stop : (how : OpenStop) → UnfitCause a b how → Unfit how
+        unfit_stop halt.Memory c = (hands_front plan holds swap swaps blank number (suc k) all 2 both_specs (some-apart 2) both both_given, both_still)
+        unfit_stop (halt.Failed f) c = absurd c
+        unfit_stop (halt.Refused r) c = by_sizes (is_volume_size a.1.size) (is_volume_size b.1.size) (a.1.size == b.1.size) refl refl refl
+          where
+            by_sizes : (x y z : Bool) → is_volume_size a.1.size ≡ x → is_volume_size b.1.size ≡ y → (a.1.size == b.1.size) ≡ z → Unfit (halt.Refused r)
+            by_sizes false y z isx isy isz =
+                let e : option_and_then size_refusal (size_fault (a.0, a.1.size) (b.0, b.1.size)) ≡ Some (refusal.Volume a.0 0) =
+                ap (λ (t : Bool). option_and_then size_refusal (fault_by a.0 b.0 t (is_volume_size b.1.size) (a.1.size == b.1.size))) isx in
+                let same : refusal.Volume a.0 0 ≡ r = some-same (refusal.Volume a.0 0) r (sym e ∙ c) in
+                subst (λ (q : Refusal). Unfit (halt.Refused q)) same
+                (subst (λ (n : ℕ). Unfit (halt.Refused (refusal.Volume n 0))) (sym one.number) (unfit_size (spec_number first) a.1 (inl refl) first_found isx (e ∙ ap (λ (n : ℕ). Some (refusal.Volume n 0)) one.number)))
+            by_sizes true false z isx isy isz =
+                let e : option_and_then size_refusal (size_fault (a.0, a.1.size) (b.0, b.1.size)) ≡ Some (refusal.Volume b.0 0) =
+                ap (λ (t : Bool). option_and_then size_refusal (fault_by a.0 b.0 t (is_volume_size b.1.size) (a.1.size == b.1.size))) isx
+                ∙ ap (λ (t : Bool). option_and_then size_refusal (fault_by a.0 b.0 true t (a.1.size == b.1.size))) isy in
+                let same : refusal.Volume b.0 0 ≡ r = some-same (refusal.Volume b.0 0) r (sym e ∙ c) in
+                subst (λ (q : Refusal). Unfit (halt.Refused q)) same
+                (subst (λ (n : ℕ). Unfit (halt.Refused (refusal.Volume n 0))) (sym two.number) (unfit_size (spec_number second) b.1 (inr refl) second_found isy (e ∙ ap (λ (n : ℕ). Some (refusal.Volume n 0)) two.number)))
+            by_sizes true true false isx isy isz =
+                let e : option_and_then size_refusal (size_fault (a.0, a.1.size) (b.0, b.1.size)) ≡ Some (refusal.Rule 15) =
+                ap (λ (t : Bool). option_and_then size_refusal (fault_by a.0 b.0 t (is_volume_size b.1.size) (a.1.size == b.1.size))) isx
+                ∙ ap (λ (t : Bool). option_and_then size_refusal (fault_by a.0 b.0 true t (a.1.size == b.1.size))) isy
+                ∙ ap (λ (t : Bool). option_and_then size_refusal (fault_by a.0 b.0 true true t)) isz in
+                let same : refusal.Rule 15 ≡ r = some-same (refusal.Rule 15) r (sym e ∙ c) in
+                subst (λ (q : Refusal). Unfit (halt.Refused q)) same (unfit_differ (λ eq. both_ways (a.1.size == b.1.size) isz (eq-eqb a.1.size b.1.size eq)) e)
+            by_sizes true true true isx isy isz =
+                let e : option_and_then size_refusal (size_fault (a.0, a.1.size) (b.0, b.1.size)) ≡ None =
+                ap (λ (t : Bool). option_and_then size_refusal (fault_by a.0 b.0 t (is_volume_size b.1.size) (a.1.size == b.1.size))) isx
+                ∙ ap (λ (t : Bool). option_and_then size_refusal (fault_by a.0 b.0 true t (a.1.size == b.1.size))) isy
+                ∙ ap (λ (t : Bool). option_and_then size_refusal (fault_by a.0 b.0 true true t)) isz in
+                let z : ◌≡◌ {A = Option Refusal} None (Some r) = sym e ∙ c in absurd (cc z)
 
 -- What is handed back, and why.
 pub record Stopped (plan : PlanSeen) (holds : Holds) (old new : ℕ) (disks : List DiskSeen) (swap : Option DiskSeen) (how : OpenStop) : Type 0 where
@@ -254,7 +538,19 @@ stopped plan holds old new swap disks how swaps blank h = at h.cause
       | inl b ↦
           let r = bare_stop plan holds old new swap swaps blank h.number (7 - h.number) all h.front h.tables h.mounted x.0 x.1 how b.cause in
           subst (λ ds. Stopped plan holds old new (bare_disks ds) swap how) (sym b.same) (record { handed = r.0; cause = r.1 })
-      | inr u ↦
-          let r = unread_stop plan holds old new swap swaps blank h.number (7 - h.number) all h.front h.tables h.mounted x.0 x.1 u.disk u.given how u.cause in
-          subst (λ ds. Stopped plan holds old new (bare_disks ds) swap how) (sym u.behind) (record { handed = r.0; cause = r.1 })
+      | inr more ↦ elim more [
+        | inl u ↦
+            let r = unread_stop plan holds old new swap swaps blank h.number (7 - h.number) all h.front h.tables h.mounted x.0 x.1 u.disk u.given how u.cause in
+            subst (λ ds. Stopped plan holds old new (bare_disks ds) swap how) (sym u.behind) (record { handed = r.0; cause = r.1 })
+        | inr rest ↦ elim rest [
+          | inl f ↦
+              let r = first_stop plan holds old new swap swaps blank h.number (7 - h.number) all h.front h.tables h.mounted x.0 x.1 f.first f.second f.mirror f.joined f.disk f.given how f.cause in
+              subst (λ ds. Stopped plan holds old new (bare_disks ds) swap how) (sym f.behind) (record { handed = r.0; cause = r.1 })
+          | inr u ↦
+              let is : volume_numbered plan.setup h.number ≡ Some (Joined u.first u.second u.mirror) = x.1 ∙ ap (λ (v : VolumeSpec). Some v) u.joined in
+              let r = unfit_stop plan holds old new swap swaps blank h.number (7 - h.number) all h.front h.tables h.mounted x.0 x.1 u.first u.second u.mirror u.joined u.a u.b u.one u.two u.one_whole u.two_whole
+              (seconds_other plan.setup (spec_number u.second) 0 h.number (second_of plan.setup h.number u.first u.second u.mirror is)) (two_numbers plan.setup h.number u.first u.second u.mirror is) how u.cause in
+              subst (λ ds. Stopped plan holds old new (bare_disks ds) swap how) (sym u.behind) (record { handed = r.0; cause = r.1 })
+        ]
+      ]
     ]

@@ -10,6 +10,7 @@ use Rattle.block_device.specs.DiskSeen.{DiskSeen}
 use Rattle.block_device.specs.OpenSeen.{OpenFaultSeen}
 use Rattle.block_device.specs.declared.numbered.NumberedDisk.{NumberedDisk}
 use Rattle.block_device.specs.declared.rack.Spec.{Spec}
+use Rattle.volume_disks.specs.declared.volume_spec.VolumeSpec.{VolumeSpec}
 use Rattle.volume_format.specs.vnode_files.Files.{FilesSeen, block_count}
 use Rattle.volume_format.specs.vnode_files.Vnode.{VnodeSeen, fresh_vnode}
 use Rattle.volume_format.specs.Table.{TableSeen}
@@ -72,7 +73,7 @@ stop-lines seen sizes files setup ds (stop.Rule n) few h = (ap (λ (r : Result (
 stop-lines seen sizes files setup ds (stop.Fault f) few h = absurd h
 
 -- the files of the tables lie well
-pub mounted-lies : {D : Type 0} (seen : D → DiskSeen) (holds : Spec → Option (List (List ℕ))) (specs : List Spec) (old : List (NumberedDisk D)) (ts : List TableSeen)
+pub mounted-lies : {D : Type 0} (seen : D → DiskSeen) (holds : Spec → Option (List (List ℕ))) (specs : List VolumeSpec) (old : List (NumberedDisk D)) (ts : List TableSeen)
     → AreMounted holds specs (map (numbered_seen seen) old) ts → Distinct (attached_numbers old)
     → LieRight (record { disks = finite.from_entries (sizes_by_number seen old); files = map fresh_vnode (mounted_infos (attached_numbers old) ts) })
 mounted-lies seen holds specs old ts m distinct =
@@ -116,7 +117,7 @@ pub record LinesGive {D : Type 0} (seen : D → DiskSeen) (old : List (NumberedD
   pub few : length made.files ≤ 64
   pub places : HavePlaces seen old (line_files made first setup)
 
-pub lines-give : {D : Type 0} (seen : D → DiskSeen) (holds : Spec → Option (List (List ℕ))) (specs : List Spec) (old : List (NumberedDisk D))
+pub lines-give : {D : Type 0} (seen : D → DiskSeen) (holds : Spec → Option (List (List ℕ))) (specs : List VolumeSpec) (old : List (NumberedDisk D))
     (ts : List TableSeen) (setup : List SetupLine) (made : FilesSeen) (first : ℕ)
     → AreMounted holds specs (map (numbered_seen seen) old) ts → Distinct (attached_numbers old) → All (λ (l : SetupLine). IsPlaceable l.act) setup
     → first ≡ length (found_files (map (numbered_seen seen) old) ts) → first ≤ 64
@@ -145,7 +146,7 @@ lines-give seen holds specs old ts setup made first m distinct placeable count f
     }
 
 -- the same, as the code has it
-pub lines-given : {D : Type 0} (seen : D → DiskSeen) (holds : Spec → Option (List (List ℕ))) (specs : List Spec) (old : List (NumberedDisk D))
+pub lines-given : {D : Type 0} (seen : D → DiskSeen) (holds : Spec → Option (List (List ℕ))) (specs : List VolumeSpec) (old : List (NumberedDisk D))
     (ts : List TableSeen) (setup : List SetupLine) (files made : FilesSeen) (first : ℕ)
     → AreMounted holds specs (map (numbered_seen seen) old) ts → Distinct (attached_numbers old) → All (λ (l : SetupLine). IsPlaceable l.act) setup
     → files ≡ with_infos (record { disks = finite.from_entries (sizes_by_number seen old); files = [] }) (mounted_infos (attached_numbers old) ts)

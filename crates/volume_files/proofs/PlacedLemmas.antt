@@ -13,6 +13,7 @@ use Rattle.std.proofs.lemmas.List.Elements.{All-from_recursion, All-map}
 use Rattle.block_device.specs.DiskSeen.{DiskSeen}
 use Rattle.block_device.specs.declared.numbered.NumberedDisk.{NumberedDisk}
 use Rattle.block_device.specs.declared.rack.Spec.{Spec}
+use Rattle.volume_disks.specs.declared.volume_spec.VolumeSpec.{VolumeSpec}
 use Rattle.vm_report.specs.flat_model.Words.{pages_in}
 use Rattle.volume_format.specs.vnode_files.declared.extent.Extent.{Extent}
 use Rattle.volume_format.specs.vnode_files.declared.vnode.FileInfo.{FileInfo}
@@ -57,7 +58,7 @@ counts_beside m k size (n ∷ ns) (t ∷ ts) other counts = (
   counts_beside m k size ns ts other.1 counts.1,
 )
 
-pub counts-are : (holds : Spec → Option (List (List ℕ))) (specs : List Spec) (ds : List (ℕ × DiskSeen)) (ts : List TableSeen) → AreMounted holds specs ds ts
+pub counts-are : (holds : Spec → Option (List (List ℕ))) (specs : List VolumeSpec) (ds : List (ℕ × DiskSeen)) (ts : List TableSeen) → AreMounted holds specs ds ts
     → Distinct (map (λ (d : ℕ × DiskSeen). d.0) ds)
     → CountsAre (finite.from_entries (map (λ (d : ℕ × DiskSeen). (d.0, d.1.size)) ds)) (map (λ (d : ℕ × DiskSeen). d.0) ds) ts
 counts-are holds specs [] ts m distinct = tt
@@ -71,7 +72,7 @@ counts-are holds (s ∷ specs) (d ∷ ds) (t ∷ ts) m distinct =
     )
 
 -- what mounted disks say of their tables
-pub mounted-volumes : (holds : Spec → Option (List (List ℕ))) (specs : List Spec) (ds : List (ℕ × DiskSeen)) (ts : List TableSeen) → AreMounted holds specs ds ts
+pub mounted-volumes : (holds : Spec → Option (List (List ℕ))) (specs : List VolumeSpec) (ds : List (ℕ × DiskSeen)) (ts : List TableSeen) → AreMounted holds specs ds ts
     → AllByRecursion (λ t. IsVolumeTable t × (t.blocks ≤ 16384)) ts × (length ts ≡ length ds)
 mounted-volumes holds [] [] [] m = (tt, refl)
 mounted-volumes holds [] [] (t ∷ ts) m = absurd m
@@ -224,12 +225,12 @@ sized_beside seen m k size (d ∷ ds) other all = (
   sized_beside seen m k size ds other.1 all.1,
 )
 
-pub all_sized : {D : Type 0} (seen : D → DiskSeen) (holds : Spec → Option (List (List ℕ))) (specs : List Spec) (ds : List (NumberedDisk D)) (ts : List TableSeen)
+pub all_sized : {D : Type 0} (seen : D → DiskSeen) (holds : Spec → Option (List (List ℕ))) (specs : List VolumeSpec) (ds : List (NumberedDisk D)) (ts : List TableSeen)
     → AreMounted holds specs (map (numbered_seen seen) ds) ts → Distinct (attached_numbers ds) → AllByRecursion (IsSized seen (finite.from_entries (sizes_by_number seen ds))) ds
 all_sized seen holds specs [] ts m distinct = tt
 all_sized seen holds specs (d ∷ ds) [] m distinct = absurd (no_table specs m)
   where
-    no_table : (specs : List Spec) → AreMounted holds specs (numbered_seen seen d ∷ map (numbered_seen seen) ds) [] → ⊥
+    no_table : (specs : List VolumeSpec) → AreMounted holds specs (numbered_seen seen d ∷ map (numbered_seen seen) ds) [] → ⊥
     no_table [] h = h
     no_table (s ∷ specs) h = h
 all_sized seen holds [] (d ∷ ds) (t ∷ ts) m distinct = absurd m

@@ -6,9 +6,10 @@ use Rattle.std.proofs.lemmas.Bool.{cases_eq, cases_lt, eq-eqb, ne_eqb}
 use Rattle.std.proofs.lemmas.List.{drop_all, length-drop, get_or-set_same, get_or-set_other, get_or_read}
 use Rattle.std.proofs.lemmas.List.Elements.{All-head, All-tail}
 use Rattle.block_device.specs.DiskSeen.{DiskSeen, Writes, with_block}
-use Rattle.block_device.specs.RackSeen.{IsAttached, spec_number}
 use Rattle.block_device.specs.declared.numbered.NumberedDisk.{NumberedDisk}
 use Rattle.block_device.specs.declared.rack.Spec.{Spec}
+use Rattle.volume_disks.specs.declared.volume_spec.VolumeSpec.{VolumeSpec}
+use Rattle.volume_files.specs.Opened.{IsVolumeAttached, volume_number}
 use Rattle.volume_format.specs.vnode_files.declared.vnode.FileInfo.{FileInfo}
 use Rattle.volume_format.specs.Table.{TableSeen, front_block}
 use Rattle.volume_files.specs.Attached.{AreMounted, bare_disks, numbered_seen}
@@ -133,13 +134,13 @@ module _ {D : Type 0} (seen : D → DiskSeen) where
       ]
 
   -- the blocks of disks that were attached, by the specs
-  pub each-written : (spared : ℕ → ℕ → Type 0) (holds : Spec → Option (List (List ℕ))) (specs : List Spec) (ds es : List (NumberedDisk D)) (ts : List TableSeen)
+  pub each-written : (spared : ℕ → ℕ → Type 0) (holds : Spec → Option (List (List ℕ))) (specs : List VolumeSpec) (ds es : List (NumberedDisk D)) (ts : List TableSeen)
       → AreMounted holds specs (map (numbered_seen seen) ds) ts → KeepThere seen spared ds es
-      → (i : ℕ) (s : Spec) (d : DiskSeen) → slice_get specs i ≡ Some s → slice_get (bare_disks (map (numbered_seen seen) es)) i ≡ Some d
-      → (was : DiskSeen) × IsAttached s (holds s) was × ((block : ℕ) → spared (spec_number s) block → block_told d.content block ≡ block_told was.content block)
+      → (i : ℕ) (s : VolumeSpec) (d : DiskSeen) → slice_get specs i ≡ Some s → slice_get (bare_disks (map (numbered_seen seen) es)) i ≡ Some d
+      → (was : DiskSeen) × IsVolumeAttached holds s was × ((block : ℕ) → spared (volume_number s) block → block_told d.content block ≡ block_told was.content block)
   each-written spared holds [] ds es ts m keep i s d si di = absurd (nothing s si)
     where
-      nothing : (s : Spec) → ◌≡◌ {A = Option Spec} None (Some s) → ⊥
+      nothing : (s : VolumeSpec) → ◌≡◌ {A = Option VolumeSpec} None (Some s) → ⊥
       nothing s is = absurd (cc is)
   each-written spared holds (q ∷ specs) [] es ts m keep i s d si di = absurd m
   each-written spared holds (q ∷ specs) (x ∷ ds) es [] m keep i s d si di = absurd m
@@ -148,10 +149,10 @@ module _ {D : Type 0} (seen : D → DiskSeen) where
       let same : q ≡ s = cc si in
       let now : seen y.disk ≡ d = cc di in (
         seen x.disk,
-        subst (λ (z : Spec). IsAttached z (holds z) (seen x.disk)) same m.0.attached,
+        subst (λ (z : VolumeSpec). IsVolumeAttached holds z (seen x.disk)) same m.0.attached,
         λ block free.
             ap (λ (z : DiskSeen). block_told z.content block) (sym now)
-            ∙ keep 0 x (omega arith) block (subst (λ (n : ℕ). spared n block) (sym (m.0.number ∙ ap spec_number same)) free),
+            ∙ keep 0 x (omega arith) block (subst (λ (n : ℕ). spared n block) (sym (m.0.number ∙ ap volume_number same)) free),
       )
   each-written spared holds (q ∷ specs) (x ∷ ds) (y ∷ es) (t ∷ ts) m keep (suc i) s d si di =
       each-written spared holds specs ds es ts m.1 (λ j e inside. keep (suc j) e (omega (arith, inside))) i s d si di

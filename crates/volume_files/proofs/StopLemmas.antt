@@ -4,18 +4,17 @@ use Rattle.std.specs.Prelude.{option_map, IfSome, IsSome, is_some, Ok, Err, Resu
 use Rattle.std.specs.List.{AllByRecursion}
 use Rattle.std.specs.Map.{lookup}
 use Rattle.std.specs.FinMap as finite
-use Rattle.std.proofs.Common.{append-nil, ap, ◌∙◌, sym, subst, refl, arith, inr}
-use Rattle.std.proofs.lemmas.Bool.{false≢true, ne_eqb}
+use Rattle.std.proofs.Common.{append-nil, ap, ◌∙◌, sym, subst, refl, arith, inl, inr, take, false}
+use Rattle.std.proofs.lemmas.Bool.{both_ways, ne_eqb}
 use Rattle.std.proofs.Common.{Vec}
 use Rattle.std.specs.Vec.{with_items}
 use Rattle.std.proofs.lemmas.List.{length-map, take_all, get_or-map, with_items_is}
 use Rattle.std.proofs.lemmas.List.Elements.{All-nil, All-cons, All-head, All-tail, recursion_from_All}
 use Rattle.block_device.specs.DiskSeen.{DiskSeen}
 use Rattle.block_device.specs.OpenSeen.{OpenFaultSeen}
-use Rattle.block_device.specs.RackSeen.{IsAttached}
 use Rattle.block_device.specs.declared.numbered.NumberedDisk.{NumberedDisk}
 use Rattle.block_device.specs.declared.rack.Spec.{Spec}
-use Rattle.block_device.specs.declared.rack.Spec.TheVariants as spec
+use Rattle.volume_disks.specs.declared.volume_spec.VolumeSpec.{VolumeSpec}
 use Rattle.volume_format.specs.vnode_files.Files.{block_count}
 use Rattle.volume_format.specs.Table.{TableSeen}
 use Rattle.vm_report.specs.vm_script.PlanSeen.{PlanSeen}
@@ -28,36 +27,43 @@ use Rattle.volume_files.specs.declared.table_files.PlaceStop.{PlaceStop}
 use Rattle.volume_files.specs.declared.table_files.PlaceStop.TheVariants as stop
 use Rattle.volume_files.specs.Attached.{AreMounted, HandsStopped, StopCause, StopsEarly, numbered_seen, bare_disks}
 use Rattle.volume_files.specs.Handed.{SpareBlock, AreAsGiven, AreUntouched, HandsAll, HandsFront, HasDiskCause, IsCountedBy, IsSwapAsGiven, IsSwapFor}
-use Rattle.volume_files.specs.Handed.{TellsSpec, disk_numbers, disk_handed, sizes_of, HaveSpecSizes}
-use Rattle.volume_files.specs.Opened.{ComesTo, OpenedFile, disk_specs, if_few, opened_files, with_line_files}
+use Rattle.volume_files.specs.Handed.{disk_handed, handed_specs, sizes_of, volume_numbers, HaveSpecSizes}
+use Rattle.volume_files.specs.Opened.{ComesTo, OpenedFile, TellsDisks, if_few, opened_files, setup_volumes, volume_specs, with_line_files}
 use Rattle.volume_files.specs.Placing.{IsFaultThere, PlaceStopped, RemainThere, attached_numbers, open_stop_of, found_files, placing_read}
 use Rattle.volume_files.specs.Written.{disk_sizes}
-use Rattle.volume_files.proofs.AllPlaced.{hands-all}
+use Rattle.volume_files.proofs.AllPlaced.{hands-all, told-one}
 use Rattle.volume_files.proofs.FoundLemmas.{AllBlocks}
 use Rattle.volume_files.proofs.HandLemmas.{SameDisks, lookup-at, mounted-numbers, opened-is, plan-numbers, same-disks, same-numbers}
 use Rattle.volume_files.proofs.OpenLemmas.{TellOrEmpty}
+use Rattle.volume_files.proofs.HeldVolumes.{volume_tells}
 use Rattle.volume_files.proofs.PlacedLemmas.{at_index, numbers-seen, sizes-seen}
 use Rattle.volume_files.proofs.SparedBlocks.{each-written}
 use Rattle.volume_files.proofs.GivenFiles.{as-given, comes-sizes, comes-to, sizes-handed}
 use Rattle.volume_files.proofs.FaultCauses.{if-counted}
-use Rattle.volume_files.proofs.MountDisks.{Told, given_of_mounted}
+use Rattle.volume_files.proofs.MountDisks.{Told, given_length, given_of_mounted}
 
 -- what was handed back of all disks is a front of them
 pub front_swap : (slots : ℕ) (swap : Option DiskSeen) → IsSwapFor slots swap → IfSome swap (λ d. (0 < slots) × (d.size ≡ slots))
 front_swap slots None serves = tt
 front_swap slots (Some d) serves = serves
 
+-- all volumes are those that are handed back
+pub all-handed : (plan : PlanSeen) → handed_specs plan (length (volume_specs plan)) 0 ≡ volume_specs plan
+all-handed plan = append-nil (take (length (volume_specs plan)) (volume_specs plan)) ∙ take_all (length (volume_specs plan)) (volume_specs plan) (omega arith)
+
 pub hands-front : (plan : PlanSeen) (disks : List DiskSeen) (swap : Option DiskSeen) → HandsAll plan disks swap → HandsFront plan disks swap
 hands-front plan disks swap all = record {
-  each = subst (λ (ss : List Spec). HaveSpecSizes ss disks) (sym (take_all (length disks) (disk_specs plan.setup) (omega (arith, all.each.0)))) all.each;
+  whole = length (volume_specs plan);
+  apart = 0;
+  each = subst (λ (ss : List VolumeSpec). HaveSpecSizes ss disks) (sym (all-handed plan)) all.each;
   first = front_swap (amounts_of plan.setup).slots swap all.first;
   before = λ some. all.first;
 }
 
 -- where the disks tell, so does the rack
-rack-tells : (holds : Spec → Option (List (List ℕ))) (specs : List Spec) (ds : List (ℕ × DiskSeen)) (ts : List TableSeen) → AreMounted holds specs ds ts
+rack-tells : (holds : Spec → Option (List (List ℕ))) (specs : List VolumeSpec) (ds : List (ℕ × DiskSeen)) (ts : List TableSeen) → AreMounted holds specs ds ts
     → AllByRecursion (λ (d : DiskSeen). IsSome d.content) (bare_disks ds)
-    → AllByRecursion (TellsSpec holds) specs × TellOrEmpty ds ts
+    → AllByRecursion (TellsDisks holds) specs × TellOrEmpty specs ds ts
 rack-tells holds [] [] [] m told = (tt, tt)
 rack-tells holds [] [] (t ∷ ts) m told = absurd m
 rack-tells holds [] (d ∷ ds) ts m told = absurd m
@@ -65,17 +71,9 @@ rack-tells holds (s ∷ specs) [] ts m told = absurd m
 rack-tells holds (s ∷ specs) (d ∷ ds) [] m told = absurd m
 rack-tells holds (s ∷ specs) (d ∷ ds) (t ∷ ts) m told =
     let rest = rack-tells holds specs ds ts m.1 told.1 in
-    ((one s m.0.attached told.0, rest.0), ((λ e es is. told.0), rest.1))
-  where
-    one : (s : Spec) → IsAttached s (holds s) d.1 → IsSome d.1.content → TellsSpec holds s
-    one (spec.Blank number n) attached some = tt
-    one (spec.Path number path) attached some = ap is_some (sym attached) ∙ some
+    ((volume_tells s holds d.1 m.0.attached told.0, rest.0), (((λ e es is. told.0), (λ none. absurd (both_ways false refl (ap is_some (sym none) ∙ told.0)))), rest.1))
 
 -- disks that tell told before they were written
-told-one : (a b : Option (List (List ℕ))) → (a ≡ None → b ≡ None) → IsSome b → IsSome a
-told-one None b keeps some = absurd (false≢true (ap is_some (sym (keeps refl)) ∙ some))
-told-one (Some x) b keeps some = refl
-
 told-before : {D : Type 0} (seen : D → DiskSeen) (ds es : List (NumberedDisk D)) → SameDisks seen ds es → All Told (bare_disks (map (numbered_seen seen) es))
     → All Told (bare_disks (map (numbered_seen seen) ds))
 told-before seen [] [] r told = All-nil Told
@@ -98,33 +96,33 @@ nth [] i below = absurd (omega (arith, below))
 nth (x ∷ xs) i below = x
 
 fault-cause : {D : Type 0} (seen : D → DiskSeen) (plan : PlanSeen) (new : List (NumberedDisk D)) (swap : Option DiskSeen) (fault : OpenFaultSeen)
-    → attached_numbers new ≡ disk_numbers plan → IsFaultThere seen new fault → HasDiskCause plan (bare_disks (map (numbered_seen seen) new)) swap fault
+    → attached_numbers new ≡ volume_numbers plan → IsFaultThere seen new fault → HasDiskCause plan (bare_disks (map (numbered_seen seen) new)) swap fault
 fault-cause seen plan new swap fault numbers there =
     let x = nth new there.i there.inside in
     let one = there.one x in
     let disks = bare_disks (map (numbered_seen seen) new) in
     let d = slice_index_or new there.i x in
-    let inside : there.i < length (disk_numbers plan) = omega (arith, there.inside, ap length numbers, length-map new (λ (y : NumberedDisk _). y.number)) in
-    let number : slice_index_or (disk_numbers plan) there.i 0 ≡ d.number =
+    let inside : there.i < length (volume_numbers plan) = omega (arith, there.inside, ap length numbers, length-map new (λ (y : NumberedDisk _). y.number)) in
+    let number : slice_index_or (volume_numbers plan) there.i 0 ≡ d.number =
     ap (λ (ns : List ℕ). slice_index_or ns there.i 0) (sym numbers) ∙ get_or-map (λ (y : NumberedDisk _). y.number) new there.i x 0 there.inside in
-    let fault_number : fault.disk ≡ slice_index_or (disk_numbers plan) there.i 0 = one.number ∙ sym number in
-    let small : slice_index_or (disk_numbers plan) there.i 0 < 8 = (at_index (λ m. (0 ≤ m) × (m < 8)) (disk_numbers plan) there.i 0 (plan-numbers plan).0 inside).1 in
-    let long : length disks ≡ length (disk_numbers plan) =
+    let fault_number : fault.disk ≡ slice_index_or (volume_numbers plan) there.i 0 = one.number ∙ sym number in
+    let small : slice_index_or (volume_numbers plan) there.i 0 < 8 = (at_index (λ m. (0 ≤ m) × (m < 8)) (volume_numbers plan) there.i 0 (plan-numbers plan).0 inside).1 in
+    let long : length disks ≡ length (volume_numbers plan) =
     omega (arith, length-map (map (numbered_seen seen) new) (λ (q : ℕ × DiskSeen). q.1), length-map new (numbered_seen seen), length-map new (λ (y : NumberedDisk _). y.number), ap length numbers) in
-    let found : lookup (λ m. m == fault.disk) (zip (disk_numbers plan) disks) ≡ Some (seen d.disk) =
-    ap (λ n. lookup (λ m. m == n) (zip (disk_numbers plan) disks)) fault_number
-    ∙ lookup-at (disk_numbers plan) disks there.i (seen x.disk) (plan-numbers plan).1 long inside ∙ ap (λ (q : DiskSeen). Some q) (bare_disks-at seen new there.i x there.inside) in
+    let found : lookup (λ m. m == fault.disk) (zip (volume_numbers plan) disks) ≡ Some (seen d.disk) =
+    ap (λ n. lookup (λ m. m == n) (zip (volume_numbers plan) disks)) fault_number
+    ∙ lookup-at (volume_numbers plan) disks there.i (seen x.disk) (plan-numbers plan).1 long inside ∙ ap (λ (q : DiskSeen). Some q) (bare_disks-at seen new there.i x there.inside) in
     let back : disk_handed plan disks swap fault.disk ≡ Some (seen d.disk) =
-    ap (λ (t : Bool). if t then swap else lookup (λ m. m == fault.disk) (zip (disk_numbers plan) disks)) (ne_eqb fault.disk 8 (λ e. omega (arith, e, fault_number, small))) ∙ found in
+    ap (λ (t : Bool). if t then swap else lookup (λ m. m == fault.disk) (zip (volume_numbers plan) disks)) (ne_eqb fault.disk 8 (λ e. omega (arith, e, fault_number, small))) ∙ found in
     if-counted ⊥ (λ (counts : ℕ × ℕ). IsCountedBy plan disks swap fault.disk counts.0 counts.1) fault.counts one.risen
     (record { risen = one.risen; disk = seen d.disk; back = back; last = one.last })
 
 -- where the disks tell, what placing comes to is how the plan is opened
 opened-told : {D : Type 0} (seen : D → DiskSeen) (plan : PlanSeen) (holds : Spec → Option (List (List ℕ))) (old : List (NumberedDisk D)) (ts : List TableSeen) (r : Result (List OpenedFile) Refusal)
-    → AllBlocks (map (numbered_seen seen) old) → AreMounted holds (disk_specs plan.setup) (map (numbered_seen seen) old) ts → placing_read seen old ts plan.setup ≡ r
+    → AllBlocks (map (numbered_seen seen) old) → AreMounted holds (setup_volumes plan.setup) (map (numbered_seen seen) old) ts → placing_read seen old ts plan.setup ≡ r
     → All Told (bare_disks (map (numbered_seen seen) old)) → opened_files plan holds ≡ r
 opened-told seen plan holds old ts r blocks m read told =
-    let tells = rack-tells holds (disk_specs plan.setup) (map (numbered_seen seen) old) ts m
+    let tells = rack-tells holds (setup_volumes plan.setup) (map (numbered_seen seen) old) ts m
     (recursion_from_All (λ (d : DiskSeen). IsSome d.content) (bare_disks (map (numbered_seen seen) old)) told) in
     opened-is holds plan (map (numbered_seen seen) old) ts m tells.0 blocks tells.1
     ∙ ap (λ (xs : List (ℕ × ℕ)). with_line_files (block_count (finite.from_entries xs)) (if_few (Ok (found_files (map (numbered_seen seen) old) ts))) plan.setup) (sizes-seen seen old)
@@ -132,23 +130,27 @@ opened-told seen plan holds old ts r blocks m read told =
 
 -- disks that were mounted are as the rack gave them
 mounted-given : (plan : PlanSeen) (holds : Spec → Option (List (List ℕ))) (disks : List (ℕ × DiskSeen)) (ts : List TableSeen) (swap : Option DiskSeen)
-    → AreMounted holds (disk_specs plan.setup) disks ts
+    → AreMounted holds (setup_volumes plan.setup) disks ts
     → IsSwapAsGiven (amounts_of plan.setup).slots swap → AreUntouched plan holds (bare_disks disks) swap
-mounted-given plan holds disks ts swap m blank = record {
-  each = subst (λ (ss : List Spec). AreAsGiven holds ss (bare_disks disks)) (append-nil (disk_specs plan.setup))
-      (as-given holds (disk_specs plan.setup) [] disks (given_of_mounted holds (disk_specs plan.setup) disks ts m));
-  last = blank;
-}
+mounted-given plan holds disks ts swap m blank =
+    let given = given_of_mounted holds (setup_volumes plan.setup) disks ts m in
+    record {
+      whole = length (volume_specs plan);
+      apart = 0;
+      count = given_length holds (setup_volumes plan.setup) disks given ∙ ap (λ (xs : List VolumeSpec). length xs) (sym (all-handed plan));
+      each = subst (λ (ss : List VolumeSpec). AreAsGiven holds ss (bare_disks disks)) (sym (all-handed plan)) (as-given holds (setup_volumes plan.setup) disks given);
+      last = blank;
+    }
 
 -- A STOP AS FILES ARE PLACED
 module _ {D : Type 0} (seen : D → DiskSeen) (plan : PlanSeen) (holds : Spec → Option (List (List ℕ))) (old new : List (NumberedDisk D)) (ts : List TableSeen) (swap : Option DiskSeen) (count : ℕ)
-    (blocks : AllBlocks (map (numbered_seen seen) old)) (m : AreMounted holds (disk_specs plan.setup) (map (numbered_seen seen) old) ts) (serves : IsSwapFor (amounts_of plan.setup).slots swap)
+    (blocks : AllBlocks (map (numbered_seen seen) old)) (m : AreMounted holds (setup_volumes plan.setup) (map (numbered_seen seen) old) ts) (serves : IsSwapFor (amounts_of plan.setup).slots swap)
     (blank : IsSwapAsGiven (amounts_of plan.setup).slots swap) (remain : RemainThere seen old new) where
   same : SameDisks seen old new
   same = same-disks seen old new remain
 
-  numbers : attached_numbers new ≡ disk_numbers plan
-  numbers = same-numbers seen old new same ∙ sym (numbers-seen seen old) ∙ mounted-numbers holds (disk_specs plan.setup) (map (numbered_seen seen) old) ts m
+  numbers : attached_numbers new ≡ volume_numbers plan
+  numbers = same-numbers seen old new same ∙ sym (numbers-seen seen old) ∙ mounted-numbers holds (setup_volumes plan.setup) (map (numbered_seen seen) old) ts m
 
   all : HandsAll plan (bare_disks (map (numbered_seen seen) new)) swap
   all = hands-all seen plan holds old new ts swap m serves remain
@@ -166,11 +168,11 @@ module _ {D : Type 0} (seen : D → DiskSeen) (plan : PlanSeen) (holds : Spec �
       → HandsStopped plan (bare_disks (map (numbered_seen seen) new)) swap (open_stop_of how) × StopCause plan holds count count (bare_disks (map (numbered_seen seen) new)) swap (open_stop_of how)
   stop-early stop.Memory stopped = (hands-front plan (bare_disks (map (numbered_seen seen) new)) swap all, untouched stopped)
   stop-early (stop.Rule n) stopped = (
-    all,
+    inl all,
     record {
       told = λ told. opened-told seen plan holds old ts (Err (refusal.Rule n)) blocks m stopped.0
           (subst (λ (ds : List (NumberedDisk D)). All Told (bare_disks (map (numbered_seen seen) ds))) stopped.1 told.each);
-      line = comes (Err (refusal.Rule n)) stopped.0;
+      line = inl (comes (Err (refusal.Rule n)) stopped.0);
       same = untouched stopped.1;
     },
   )
@@ -182,7 +184,7 @@ module _ {D : Type 0} (seen : D → DiskSeen) (plan : PlanSeen) (holds : Spec �
       handed = all;
       given = comes (Ok stopped.1.0) stopped.1.1;
       written = record {
-        each = each-written seen (SpareBlock (drop (length (found_files (map (numbered_seen seen) old) ts)) stopped.1.0)) holds (disk_specs plan.setup) old new ts m stopped.1.2;
+        each = each-written seen (SpareBlock (drop (length (found_files (map (numbered_seen seen) old) ts)) stopped.1.0)) holds (setup_volumes plan.setup) old new ts m stopped.1.2;
         last = blank;
       };
       opened = λ told. opened-told seen plan holds old ts (Ok stopped.1.0) blocks m stopped.1.1 (told-before seen old new same told.each);
@@ -203,7 +205,7 @@ pub stops-early : {D : Type 0} (seen : D → DiskSeen) (plan : PlanSeen) (holds 
     (ts : List TableSeen) (swap : Option (NumberedDisk D)) (count : ℕ)
     (how : PlaceStop) (s : HandedBack D) → s.why ≡ open_stop_of how
     → s.disks.items ≡ map (λ (d : NumberedDisk D). d.disk) new → s.swap ≡ option_map (λ (d : NumberedDisk D). d.disk) swap
-    → AllBlocks (map (numbered_seen seen) old) → AreMounted holds (disk_specs plan.setup) (map (numbered_seen seen) old) ts
+    → AllBlocks (map (numbered_seen seen) old) → AreMounted holds (setup_volumes plan.setup) (map (numbered_seen seen) old) ts
     → IsSwapFor (amounts_of plan.setup).slots (option_map (λ (d : NumberedDisk D). seen d.disk) swap)
     → IsSwapAsGiven (amounts_of plan.setup).slots (option_map (λ (d : NumberedDisk D). seen d.disk) swap)
     → RemainThere seen old new → PlaceStopped seen (length (found_files (map (numbered_seen seen) old) ts)) (placing_read seen old ts plan.setup) old new how → StopsEarly plan holds count count seen s

@@ -3,7 +3,7 @@ use Rattle.std.specs.Prelude.{ℕ, ◌≡◌, ◌≢◌, ◌<◌, ◌≤◌, ◌
 use Rattle.std.specs.FinMap as finite
 use Rattle.block_device.specs.DiskSeen.{DiskSeen}
 use Rattle.block_device.specs.OpenSeen.{OpenFaultSeen}
-use Rattle.block_device.specs.RackSeen.{spec_number, IsAttached}
+use Rattle.volume_disks.specs.declared.volume_spec.VolumeSpec.{VolumeSpec}
 use Rattle.block_device.specs.declared.numbered.NumberedDisk.{NumberedDisk}
 use Rattle.block_device.specs.declared.rack.Spec.{Spec}
 use Rattle.volume_format.specs.vnode_files.declared.vnode.FileInfo.{FileInfo}
@@ -22,7 +22,7 @@ use Rattle.volume_files.specs.Closed.{StoreFiles, info_at}
 use Rattle.volume_files.specs.Handed.{AreUntouched, AreWrittenAt, HaveTold, RackTells, HandsFront, HandsAll, HandsRefused, HasDiskCause, HasOpeningCause}
 use Rattle.volume_files.specs.Handed.{HasRefusalCause, IsSwapAsGiven, IsSwapFor, StopsAttaching, volume_numbers, sizes_of}
 use Rattle.volume_files.specs.Written.{LieWell, HaveDisks, HaveFirstBlocks}
-use Rattle.volume_files.specs.Opened.{ComesTo, OpenedFile, line_files_of, opened_files, infos_of, opened_bytes_at, table_on, volume_specs}
+use Rattle.volume_files.specs.Opened.{ComesTo, IsVolumeAttached, OpenedFile, volume_number, line_files_of, opened_files, infos_of, opened_bytes_at, table_on, volume_specs}
 
 -- The disks with their numbers, in rising number; the table of each; and the swap disk.
 pub record AttachedSeen : Type 0 where
@@ -55,10 +55,10 @@ pub record HasRooms {D : Type 0} (a : Attached D) : Type 0 where
   pub none_back : a.back.items ≡ []
   pub back : length a.disks.items ≤ vec_capacity a.back
 
--- The disk of a spec was attached; it has 2 to 16,384 blocks; and where it tells, block 0 says this table.
-pub record IsMounted (holds : Spec → Option (List (List ℕ))) (s : Spec) (d : ℕ × DiskSeen) (t : TableSeen) : Type 0 where
-  pub number : d.0 ≡ spec_number s
-  pub attached : IsAttached s (holds s) d.1
+-- A volume was attached; it has 2 to 16,384 blocks; and where it tells, block 0 says this table.
+pub record IsMounted (holds : Spec → Option (List (List ℕ))) (s : VolumeSpec) (d : ℕ × DiskSeen) (t : TableSeen) : Type 0 where
+  pub number : d.0 ≡ volume_number s
+  pub attached : IsVolumeAttached holds s d.1
   pub some : 2 ≤ d.1.size
   pub few : d.1.size ≤ 16384
   pub blocks : t.blocks ≡ d.1.size
@@ -66,7 +66,7 @@ pub record IsMounted (holds : Spec → Option (List (List ℕ))) (s : Spec) (d :
   pub read : IfSome d.1.content (λ blocks. table_on blocks ≡ Ok t)
 
 -- So was each disk of these specs, in their order.
-abbrev pub AreMounted : (Spec → Option (List (List ℕ))) → List Spec → List (ℕ × DiskSeen) → List TableSeen → Type 0
+abbrev pub AreMounted : (Spec → Option (List (List ℕ))) → List VolumeSpec → List (ℕ × DiskSeen) → List TableSeen → Type 0
 AreMounted holds [] [] [] = Unit {0}
 AreMounted holds (s ∷ specs) (d ∷ disks) (t ∷ tables) = IsMounted holds s d t × AreMounted holds specs disks tables
 AreMounted holds specs disks tables = ⊥

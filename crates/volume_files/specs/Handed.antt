@@ -1,6 +1,6 @@
 -- The disks that are handed back, by number, and why setting up ended. Public clauses cite this.
-use Rattle.std.specs.Prelude.{ℕ, ◌≡◌, ◌≤◌, ◌<◌, ◌==◌, ◌⊎◌, Bool, nat_le, nat_lt, count_by, List, [], length, map, take, Option, Some, None, Err, IfSome, IsSome}
-use Rattle.std.specs.Prelude.{IsSomeAnd, MatchOption, MatchBool, All, zip, slice_get, slice_index_or, option_map, if◌then◌else◌, ◌+◌}
+use Rattle.std.specs.Prelude.{ℕ, ◌≡◌, ◌≤◌, ◌<◌, ◌==◌, ◌≢◌, ◌++◌, ◌∷◌, ◌⊎◌, Bool, nat_le, nat_lt, count_by, List, [], length, map, take, Option, Some, None, Err, IfSome, IsOk, IsSome}
+use Rattle.std.specs.Prelude.{IsSomeAnd, MatchOption, All, zip, slice_get, slice_index_or, option_map, if◌then◌else◌, ◌+◌}
 use Rattle.std.specs.List.{Contains, sum_by}
 use Rattle.std.specs.Map.{lookup}
 use Rattle.std.specs.Option.{option_map_or}
@@ -17,28 +17,23 @@ use Rattle.vm_report.specs.vm_script.PlanSeen.{PlanSeen}
 use Rattle.vm_report.specs.vm_script.Rules.{amounts_of}
 use Rattle.volume_files.specs.declared.stops.Refusal.{Refusal}
 use Rattle.volume_files.specs.declared.stops.Refusal.TheVariants as refusal
-use Rattle.volume_files.specs.Opened.{ComesTo, OpenedFile, attached_specs, volume_specs, opened_files, table_of_read}
+use Rattle.volume_disks.specs.declared.volume_spec.VolumeSpec.{VolumeSpec}
+use Rattle.volume_disks.specs.declared.volume_spec.VolumeSpec.TheVariants.{Plain, Joined}
+use Rattle.volume_files.specs.Opened.{ComesTo, IsVolumeAttached, OpenedFile, TellsVolume, joined_size, mounted_files, volume_number, volume_specs, opened_files, table_of_read}
+use Rattle.volume_disks.specs.Volumes.{second_spec}
 
 -- The rack tells what it holds for each disk by path.
-abbrev pub TellsSpec : (Spec → Option (List (List ℕ))) → Spec → Type 0
-TellsSpec holds (spec.Blank number blocks) = Unit {0}
-TellsSpec holds (spec.Path number path) = IsSome (holds (spec.Path number path))
-
 abbrev pub RackTells : (Spec → Option (List (List ℕ))) → PlanSeen → Type 0
-RackTells holds plan = All (TellsSpec holds) (attached_specs plan)
+RackTells holds plan = All (TellsVolume holds) (volume_specs plan)
 
 -- Each disk that came back tells its blocks.
 pub record HaveTold (disks : List DiskSeen) (swap : Option DiskSeen) : Type 0 where
   pub each : All (λ (d : DiskSeen). IsSome d.content) disks
   pub last : IfSome swap (λ d. IsSome d.content)
 
--- The numbers of the disks that are attached for a plan, in rising order.
-abbrev pub disk_numbers : PlanSeen → List ℕ
-disk_numbers plan = map spec_number (attached_specs plan)
-
 -- The numbers of a plan's volumes, in rising order; and the volumes with their numbers, by the disks that came back.
 abbrev pub volume_numbers : PlanSeen → List ℕ
-volume_numbers plan = map spec_number (volume_specs plan)
+volume_numbers plan = map volume_number (volume_specs plan)
 
 abbrev pub volumes_of : PlanSeen → List DiskSeen → List (ℕ × DiskSeen)
 volumes_of plan disks = zip (volume_numbers plan) disks
@@ -51,13 +46,22 @@ disk_handed plan disks swap number = if number == 8 then swap else lookup (λ n.
 abbrev pub sizes_of : PlanSeen → List DiskSeen → List (ℕ × ℕ)
 sizes_of plan disks = map (λ (d : ℕ × DiskSeen). (d.0, d.1.size)) (volumes_of plan disks)
 
--- A blank disk has as many blocks as its spec says.
-abbrev pub HasSpecSize : Spec → DiskSeen → Type 0
-HasSpecSize (spec.Blank number blocks) disk = disk.size ≡ blocks
-HasSpecSize (spec.Path number path) disk = Unit {0}
+-- A blank disk has as many blocks as its spec says, and so does a volume of blank disks.
+abbrev pub HasSpecSize : VolumeSpec → DiskSeen → Type 0
+HasSpecSize (Plain (spec.Blank number blocks)) disk = disk.size ≡ blocks
+HasSpecSize (Joined (spec.Blank number blocks) second mirror) disk = disk.size ≡ joined_size mirror blocks
+HasSpecSize v disk = Unit {0}
 
-abbrev pub HaveSpecSizes : List Spec → List DiskSeen → Type 0
-HaveSpecSizes specs disks = (length disks ≡ length specs) × ((i : ℕ) (s : Spec) (d : DiskSeen) → slice_get specs i ≡ Some s → slice_get disks i ≡ Some d → HasSpecSize s d)
+abbrev pub HaveSpecSizes : List VolumeSpec → List DiskSeen → Type 0
+HaveSpecSizes specs disks = (length disks ≡ length specs) × ((i : ℕ) (s : VolumeSpec) (d : DiskSeen) → slice_get specs i ≡ Some s → slice_get disks i ≡ Some d → HasSpecSize s d)
+
+-- What is handed back where attaching stopped: so many of the volumes, and behind them so many of the disks of the next one, each by itself.
+abbrev pub disks_apart : Option VolumeSpec → List VolumeSpec
+disks_apart (Some (Joined first second mirror)) = Plain first ∷ Plain second ∷ []
+disks_apart v = []
+
+abbrev pub handed_specs : PlanSeen → ℕ → ℕ → List VolumeSpec
+handed_specs plan whole apart = take whole (volume_specs plan) ++ take apart (disks_apart (slice_get (volume_specs plan) whole))
 
 -- What kinds of disks these are.
 abbrev pub kinds_of : List (ℕ × DiskSeen) → List DiskKind
@@ -78,54 +82,69 @@ member_count disks swap = members_of disks + swap_members swap
 abbrev pub IsSwapFor : ℕ → Option DiskSeen → Type 0
 IsSwapFor slots swap = MatchOption swap (slots ≡ 0) (λ d. (0 < slots) × (d.size ≡ slots))
 
--- The disks of a front of the plan's are handed back, in rising number, and the swap disk or none; with a disk the swap disk too, where there are slots.
+-- A front of the plan's volumes is handed back, in rising number, and disks of the next one, and the swap disk or none; with a disk the swap disk too, where
+-- there are slots.
 pub record HandsFront (plan : PlanSeen) (disks : List DiskSeen) (swap : Option DiskSeen) : Type 0 where
-  pub each : HaveSpecSizes (take (length disks) (attached_specs plan)) disks
+  pub whole : ℕ
+  pub apart : ℕ
+  pub each : HaveSpecSizes (handed_specs plan whole apart) disks
   pub first : IfSome swap (λ d. (0 < (amounts_of plan.setup).slots) × (d.size ≡ (amounts_of plan.setup).slots))
   pub before : 0 < length disks → IsSwapFor (amounts_of plan.setup).slots swap
 
--- All of the plan's disks are handed back, in rising number, and the swap disk where there are slots.
+-- All of the plan's volumes are handed back, in rising number, and the swap disk where there are slots.
 pub record HandsAll (plan : PlanSeen) (disks : List DiskSeen) (swap : Option DiskSeen) : Type 0 where
-  pub each : HaveSpecSizes (attached_specs plan) disks
+  pub each : HaveSpecSizes (volume_specs plan) disks
   pub first : IsSwapFor (amounts_of plan.setup).slots swap
 
--- The swap disk where there are slots, and the disks whose numbers pass a test, which are a front of the plan's.
-pub record HandsBelow (plan : PlanSeen) (passes : ℕ → Bool) (disks : List DiskSeen) (swap : Option DiskSeen) : Type 0 where
-  pub each : HandsFront plan disks swap
+-- The swap disk where there are slots, the volumes whose numbers pass a test, which are a front of the plan's, and so many disks of the next one.
+pub record HandsBelow (plan : PlanSeen) (passes : ℕ → Bool) (apart : ℕ) (disks : List DiskSeen) (swap : Option DiskSeen) : Type 0 where
+  pub each : HaveSpecSizes (handed_specs plan (count_by passes (volume_numbers plan)) apart) disks
   pub first : IsSwapFor (amounts_of plan.setup).slots swap
-  pub count : length disks ≡ count_by passes (disk_numbers plan)
+
+-- So many of the disks of a volume of two are handed back, each by itself, and the volumes of lower numbers.
+pub record HandsApart (plan : PlanSeen) (first second : Spec) (apart : ℕ) (disks : List DiskSeen) (swap : Option DiskSeen) : Type 0 where
+  pub mirror : Bool
+  pub there : Contains (volume_specs plan) (Joined first second mirror)
+  pub handed : HandsBelow plan (λ n. nat_lt n (spec_number first)) apart disks swap
 
 -- Nothing was attached.
 pub record HandsNone (disks : List DiskSeen) (swap : Option DiskSeen) : Type 0 where
   pub no_disk : disks ≡ []
   pub no_swap : swap ≡ None
 
--- What is handed back where a rule is broken: where a disk breaks rule 9, that disk and those of lower numbers; else all.
+-- What is handed back where a rule is broken: where a volume breaks rule 9, that volume and those of lower numbers, or its two disks in its place where the
+-- size of one is wrong, or they differ; else all.
 abbrev pub HandsRefused : PlanSeen → List DiskSeen → Option DiskSeen → Refusal → Type 0
-HandsRefused plan disks swap (refusal.Volume number rule) = HandsBelow plan (λ n. nat_le n number) disks swap
-HandsRefused plan disks swap (refusal.Rule n) = HandsAll plan disks swap
+HandsRefused plan disks swap (refusal.Volume number rule) =
+    HandsBelow plan (λ n. nat_le n number) 0 disks swap
+    ⊎ ((first : Spec) × (second : Spec) × ((spec_number first ≡ number) ⊎ (spec_number second ≡ number)) × HandsApart plan first second 2 disks swap)
+HandsRefused plan disks swap (refusal.Rule n) = HandsAll plan disks swap ⊎ ((n ≡ 15) × ((first : Spec) × (second : Spec) × HandsApart plan first second 2 disks swap))
 
--- What is handed back where the rack fails, or a disk's block 0 isn't read. The rack attaches the swap disk, number 8, first, where there are slots, and
--- then the plan's disks in rising number, each of which is read before the next one is attached.
+-- What is handed back where the rack fails, or a volume's block 0 isn't read. The rack attaches the swap disk, number 8, first, where there are slots, and
+-- then the plan's volumes in rising number, each of which is read before the next one is attached; of two disks the second right after the first.
 abbrev pub HandsUnracked : PlanSeen → List DiskSeen → Option DiskSeen → ℕ → Type 0
 HandsUnracked plan disks swap number =
-    MatchBool (number == 8) ((0 < (amounts_of plan.setup).slots) × HandsNone disks swap)
-    (Contains (disk_numbers plan) number × HandsBelow plan (λ n. nat_lt n number) disks swap)
+    ((number ≡ 8) × (0 < (amounts_of plan.setup).slots) × HandsNone disks swap)
+    ⊎ (Contains (volume_numbers plan) number × HandsBelow plan (λ n. nat_lt n number) 0 disks swap)
+    ⊎ ((first : Spec) × (second : Spec) × (spec_number second ≡ number) × HandsApart plan first second 1 disks swap)
 
 abbrev pub HandsUnread : PlanSeen → List DiskSeen → Option DiskSeen → OpenFaultSeen → Type 0
 HandsUnread plan disks swap fault =
-    MatchOption fault.counts (HandsUnracked plan disks swap fault.disk) (λ counts. HandsBelow plan (λ n. nat_le n fault.disk) disks swap)
+    MatchOption fault.counts (HandsUnracked plan disks swap fault.disk) (λ counts. HandsBelow plan (λ n. nat_le n fault.disk) 0 disks swap)
 
 -- Nothing was written: each of these disks is as the rack gave it, and so is the swap disk. A blank disk has its blocks, zeros where it tells, and one by
 -- path has what the rack holds for it.
-abbrev pub AreAsGiven : (Spec → Option (List (List ℕ))) → List Spec → List DiskSeen → Type 0
-AreAsGiven holds specs disks = (i : ℕ) (s : Spec) (d : DiskSeen) → slice_get specs i ≡ Some s → slice_get disks i ≡ Some d → IsAttached s (holds s) d
+abbrev pub AreAsGiven : (Spec → Option (List (List ℕ))) → List VolumeSpec → List DiskSeen → Type 0
+AreAsGiven holds specs disks = (i : ℕ) (s : VolumeSpec) (d : DiskSeen) → slice_get specs i ≡ Some s → slice_get disks i ≡ Some d → IsVolumeAttached holds s d
 
 abbrev pub IsSwapAsGiven : ℕ → Option DiskSeen → Type 0
 IsSwapAsGiven slots swap = IfSome swap (λ d. IsAttached (spec.Blank 8 slots) None d)
 
 pub record AreUntouched (plan : PlanSeen) (holds : Spec → Option (List (List ℕ))) (disks : List DiskSeen) (swap : Option DiskSeen) : Type 0 where
-  pub each : AreAsGiven holds (attached_specs plan) disks
+  pub whole : ℕ
+  pub apart : ℕ
+  pub count : length disks ≡ length (handed_specs plan whole apart)
+  pub each : AreAsGiven holds (handed_specs plan whole apart) disks
   pub last : IsSwapAsGiven (amounts_of plan.setup).slots swap
 
 -- None of these disks tells a failure: each whose count is exact has counted none.
@@ -149,23 +168,37 @@ SpareBlock files number block = All (λ f. SparesBlock f.info f.bytes number blo
 
 -- The disks were written at most where the bytes of these files lie: each other block is as the rack gave it, and so is the swap disk.
 pub record AreWrittenAt (plan : PlanSeen) (holds : Spec → Option (List (List ℕ))) (files : List OpenedFile) (disks : List DiskSeen) (swap : Option DiskSeen) : Type 0 where
-  pub each : (i : ℕ) (s : Spec) (d : DiskSeen) → slice_get (attached_specs plan) i ≡ Some s → slice_get disks i ≡ Some d
-      → (was : DiskSeen) × IsAttached s (holds s) was × ((block : ℕ) → SpareBlock files (spec_number s) block → block_told d.content block ≡ block_told was.content block)
+  pub each : (i : ℕ) (s : VolumeSpec) (d : DiskSeen) → slice_get (volume_specs plan) i ≡ Some s → slice_get disks i ≡ Some d
+      → (was : DiskSeen) × IsVolumeAttached holds s was × ((block : ℕ) → SpareBlock files (volume_number s) block → block_told d.content block ≡ block_told was.content block)
   pub last : IsSwapAsGiven (amounts_of plan.setup).slots swap
 
--- No disk that was read before this one breaks a rule of volumes. The swap disk, number 8, is attached before all others.
+-- The volume has the disk of this number.
+abbrev pub HasDiskNumbered : ℕ → VolumeSpec → Type 0
+HasDiskNumbered number v = (volume_number v ≡ number) ⊎ IsSomeAnd (second_spec v) (λ s. spec_number s ≡ number)
+
+-- No volume that was read before the disk of this number breaks a rule: those before its own have files. The swap disk, number 8, is attached before all.
 abbrev pub NoneBreaksBefore : PlanSeen → (Spec → Option (List (List ℕ))) → ℕ → Type 0
-NoneBreaksBefore plan holds disk = (number rule : ℕ) → opened_files plan holds ≡ Err (refusal.Volume number rule) → (disk ≡ 8) ⊎ (disk ≤ number)
+NoneBreaksBefore plan holds disk =
+    (disk ≡ 8) ⊎ ((before : ℕ) × IsSomeAnd (slice_get (volume_specs plan) before) (HasDiskNumbered disk) × IsOk (mounted_files holds (take before (volume_specs plan))))
 
 -- Some block 0 of a disk of so many blocks breaks this rule of volumes.
 abbrev pub HasBadTable : ℕ → ℕ → Type 0
 HasBadTable size rule = (block : List ℕ) × (length block ≡ 4096) × (table_of_read block size ≡ Err rule)
 
+-- The disk of a number among those that are handed back where attaching stopped.
+abbrev pub disk_stopped : PlanSeen → ℕ → ℕ → List DiskSeen → ℕ → Option DiskSeen
+disk_stopped plan whole apart disks number = lookup (λ n. n == number) (zip (map volume_number (handed_specs plan whole apart)) disks)
+
+-- The last two of the disks that are handed back differ in size.
+abbrev pub LastDiffer : PlanSeen → List DiskSeen → Type 0
+LastDiffer plan disks = (front : List DiskSeen) × (a : DiskSeen) × (b : DiskSeen) × (disks ≡ front ++ a ∷ b ∷ []) × (a.size ≢ b.size)
+
 -- Why a rule that the disks or the lines of files break is told: where each disk that came back tells, it is the first that is broken. Over any disks that
--- of a line is, and of the disk that is named a block 0 was read that breaks the rule of volumes, or its size does. Nothing was written.
+-- of a line is, and of the disk that is named a block 0 was read that breaks the rule of volumes, or its size does; or two disks that are joined differ
+-- in size. Nothing was written.
 abbrev pub BreaksLine : PlanSeen → (Spec → Option (List (List ℕ))) → List DiskSeen → Option DiskSeen → Refusal → Type 0
-BreaksLine plan holds disks swap (refusal.Volume number rule) = IsSomeAnd (disk_handed plan disks swap number) (λ d. HasBadTable d.size rule)
-BreaksLine plan holds disks swap (refusal.Rule n) = ComesTo plan holds (sizes_of plan disks) (Err (refusal.Rule n))
+BreaksLine plan holds disks swap (refusal.Volume number rule) = (whole : ℕ) × (apart : ℕ) × IsSomeAnd (disk_stopped plan whole apart disks number) (λ d. HasBadTable d.size rule)
+BreaksLine plan holds disks swap (refusal.Rule n) = ComesTo plan holds (sizes_of plan disks) (Err (refusal.Rule n)) ⊎ ((n ≡ 15) × LastDiffer plan disks)
 
 pub record HasRefusalCause (plan : PlanSeen) (holds : Spec → Option (List (List ℕ))) (disks : List DiskSeen) (swap : Option DiskSeen) (r : Refusal) : Type 0 where
   pub told : HaveTold disks swap → opened_files plan holds ≡ Err r

@@ -16,3 +16,5 @@ pub use Rattle.vm_report.specs.vm_script as vm_script
 pub use Rattle.vm_report.specs as vm_report
 pub use Rattle.volume_format.specs as volume_format
 pub use Rattle.block_device.specs as block_device
+pub use Rattle.volume_disks.specs as volume_disks
+pub use Rattle.joined_disk.specs as joined_disk

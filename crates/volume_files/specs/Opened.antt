@@ -1,13 +1,15 @@
 -- The files as the processes find them, or the set-up rule that keeps them from being opened. Public clauses cite this.
 use Rattle.std.specs.Prelude.{ℕ, ◌==◌, ◌+◌, ◌-◌, nat_le, nat_lt, Bool, List, [], ◌∷◌, ◌++◌, length, take, drop, map, filter, filter_map, replicate}
-use Rattle.std.specs.Prelude.{slice_index_or, unwrap_or, Option, Some, None, option_map, option_and_then, IfSome, Result, Ok, Err, if◌then◌else◌, ◌≡◌, ◌≤◌}
+use Rattle.std.specs.Prelude.{is_some, IsSome, true, false, slice_index_or, unwrap_or, Option, Some, None, option_map, option_and_then, IfSome, Result, Ok, Err, if◌then◌else◌, ◌≡◌, ◌≤◌}
 use Rattle.std.specs.List.{concat, find, flat_map, list_all, list_any, range_with_len}
 use Rattle.std.specs.FinMap as finite
 use Rattle.std.specs.Map.{lookup}
 use Rattle.std.specs.Str.{bytes_eq}
 use Rattle.block_device.specs.declared.rack.Spec.{Spec}
 use Rattle.block_device.specs.declared.rack.Spec.TheVariants as spec
-use Rattle.block_device.specs.RackSeen.{spec_number}
+use Rattle.block_device.specs.DiskSeen.{DiskSeen, HasBlocks}
+use Rattle.block_device.specs.Joins.{content_of_both}
+use Rattle.block_device.specs.RackSeen.{spec_number, IsAttached}
 use Rattle.vm_report.specs.flat_model.Flat.{File, Flat}
 use Rattle.vm_report.specs.flat_model.Opening.{flat_at_opening}
 use Rattle.vm_report.specs.flat_model.Parts.{file_at_opening}
@@ -27,6 +29,12 @@ use Rattle.vm_report.specs.vm_script.FileNames.{with_files}
 use Rattle.vm_report.specs.vm_script.PlanSeen.{PlanSeen}
 use Rattle.vm_report.specs.vm_script.Processes.{kernel_parents}
 use Rattle.vm_report.specs.vm_script.Rules.{amounts_of, gives_disk, is_from_to}
+use Rattle.joined_disk.specs.disk_stripe.StripeSeen.{stripe_blocks}
+use Rattle.volume_disks.specs.Volumes.{first_spec, size_fault}
+use Rattle.volume_disks.specs.declared.stops.VolumeStop.{VolumeStop}
+use Rattle.volume_disks.specs.declared.stops.VolumeStop.TheVariants as unfit
+use Rattle.volume_disks.specs.declared.volume_spec.VolumeSpec.{VolumeSpec}
+use Rattle.volume_disks.specs.declared.volume_spec.VolumeSpec.TheVariants.{Plain, Joined}
 use Rattle.volume_files.specs.declared.stops.Refusal.{Refusal}
 use Rattle.volume_files.specs.declared.stops.Refusal.TheVariants as refusal
 
@@ -40,26 +48,82 @@ given_disk a = None
 abbrev pub disk_numbered : List SetupLine → ℕ → Option Spec
 disk_numbered setup number = option_and_then (λ l. given_disk l.act) (find (λ l. gives_disk number l.act) setup)
 
--- The disks of these lines in rising number.
-abbrev pub disk_specs : List SetupLine → List Spec
-disk_specs setup = filter_map (disk_numbered setup) (range_with_len 0 8)
+-- The disk to which a line joins that of a number as its second, and whether it mirrors the two.
+abbrev pub joined_to : ℕ → SetupAct → Option (ℕ × Bool)
+joined_to number (given.Join disk other mirror) = if disk == number then Some (other, mirror) else None
+joined_to number a = None
 
--- WHAT IS ATTACHED for a plan, in the order in which it is: its disks, in rising number. Whatever is said of disks that are handed back goes by these.
-abbrev pub attached_specs : PlanSeen → List Spec
-attached_specs plan = disk_specs plan.setup
+-- The line joins the disk of a number to another as its second.
+abbrev pub is_second : ℕ → SetupAct → Bool
+is_second number (given.Join disk other mirror) = other == number
+is_second number a = false
 
--- THE VOLUMES of a plan: the disks on which files lie, each of which is one that is attached. Whatever is said of files, tables and sizes goes by these.
-abbrev pub volume_specs : PlanSeen → List Spec
-volume_specs plan = attached_specs plan
+-- The disk to which the first of these lines joins that of a number, and whether it mirrors the two.
+abbrev pub joined_by : List SetupLine → ℕ → Option (ℕ × Bool)
+joined_by setup number = option_and_then (λ (l : SetupLine). joined_to number l.act) (find (λ (l : SetupLine). is_some (joined_to number l.act)) setup)
+
+-- The second disk of the volume of a number, where a line joins one to it, and whether it mirrors the two.
+abbrev pub second_numbered : List SetupLine → ℕ → Option (Spec × Bool)
+second_numbered setup number = option_and_then (λ (j : ℕ × Bool). option_map (λ (s : Spec). (s, j.1)) (disk_numbered setup j.0)) (joined_by setup number)
+
+abbrev pub with_second : Option (Spec × Bool) → Spec → VolumeSpec
+with_second None first = Plain first
+with_second (Some second) first = Joined first second.0 second.1
+
+-- The volume of a number that these lines give, if they give one: a disk that is the second of two is none.
+abbrev pub volume_numbered : List SetupLine → ℕ → Option VolumeSpec
+volume_numbered setup number =
+    if list_any (λ (l : SetupLine). is_second number l.act) setup then None else option_map (with_second (second_numbered setup number)) (disk_numbered setup number)
+
+abbrev pub volume_number : VolumeSpec → ℕ
+volume_number v = spec_number (first_spec v)
+
+-- The volumes of these lines, in rising number.
+abbrev pub setup_volumes : List SetupLine → List VolumeSpec
+setup_volumes setup = filter_map (volume_numbered setup) (range_with_len 0 8)
+
+-- THE VOLUMES of a plan: the disks on which files lie, each one that is attached, or two as one. Whatever is said of files, tables and sizes goes by these.
+abbrev pub volume_specs : PlanSeen → List VolumeSpec
+volume_specs plan = setup_volumes plan.setup
 
 -- The blocks of the disk of a spec as it is attached.
 abbrev pub blocks_held : (Spec → Option (List (List ℕ))) → Spec → List (List ℕ)
 blocks_held holds (spec.Blank number blocks) = replicate blocks (replicate 4096 0)
 blocks_held holds (spec.Path number path) = unwrap_or (holds (spec.Path number path)) []
 
--- The disks as they are attached, with their numbers.
-abbrev pub disks_held : (Spec → Option (List (List ℕ))) → List Spec → List (ℕ × List (List ℕ))
-disks_held holds specs = map (λ s. (spec_number s, blocks_held holds s)) specs
+-- The blocks of a volume as it is attached: those of its disk, those of both in turn, or, of a mirror, those of the first.
+abbrev pub volume_blocks : (Spec → Option (List (List ℕ))) → VolumeSpec → List (List ℕ)
+volume_blocks holds (Plain s) = blocks_held holds s
+volume_blocks holds (Joined first second false) = stripe_blocks (blocks_held holds first) (blocks_held holds second)
+volume_blocks holds (Joined first second true) = blocks_held holds first
+
+-- The volumes as they are attached, with their numbers.
+abbrev pub volumes_held : (Spec → Option (List (List ℕ))) → List VolumeSpec → List (ℕ × List (List ℕ))
+volumes_held holds specs = map (λ v. (volume_number v, volume_blocks holds v)) specs
+
+-- A volume was attached: its disk was, by its spec, or both of its disks were, whose sizes serve, and it has what they have.
+abbrev pub joined_size : Bool → ℕ → ℕ
+joined_size false size = size + size
+joined_size true size = size
+
+abbrev pub joined_content : Bool → Option (List (List ℕ)) → Option (List (List ℕ)) → Option (List (List ℕ))
+joined_content false first second = content_of_both stripe_blocks first second
+joined_content true first second = content_of_both (λ blocks others. blocks) first second
+
+pub record AreJoined (holds : Spec → Option (List (List ℕ))) (first second : Spec) (mirror : Bool) (disk : DiskSeen) : Type 0 where
+  pub a : DiskSeen
+  pub b : DiskSeen
+  pub one : IsAttached first (holds first) a
+  pub two : IsAttached second (holds second) b
+  pub one_whole : HasBlocks a.content a.size
+  pub two_whole : HasBlocks b.content b.size
+  pub fit : size_fault (spec_number first, a.size) (spec_number second, b.size) ≡ None
+  pub size : disk.size ≡ joined_size mirror a.size
+  pub content : disk.content ≡ joined_content mirror a.content b.content
+
+abbrev pub IsVolumeAttached : (Spec → Option (List (List ℕ))) → VolumeSpec → DiskSeen → Type 0
+IsVolumeAttached holds (Plain s) disk = IsAttached s (holds s) disk
+IsVolumeAttached holds (Joined first second mirror) disk = AreJoined holds first second mirror disk
 
 -- A file as it is opened: its record, and the bytes up to its length.
 pub record OpenedFile : Type 0 where
@@ -90,16 +154,41 @@ table_of_read block size = if is_from_to 2 16384 size then table_read (reading b
 abbrev pub table_on : List (List ℕ) → Result TableSeen ℕ
 table_on blocks = table_of_read (slice_index_or blocks 0 []) (length blocks)
 
--- The files of the disk, and behind them those of the disks behind it.
-abbrev pub with_mounted : ℕ × List (List ℕ) → Result TableSeen ℕ → Result (List OpenedFile) Refusal → Result (List OpenedFile) Refusal
-with_mounted disk (Err rule) more = Err (refusal.Volume disk.0 rule)
+-- Why two disks as they are held can't be joined: the size of one, which is rule 0 of volumes, or that the two differ.
+abbrev pub held_size : (Spec → Option (List (List ℕ))) → Spec → ℕ × ℕ
+held_size holds s = (spec_number s, length (blocks_held holds s))
+
+abbrev pub size_refusal : VolumeStop → Option Refusal
+size_refusal (unfit.Size disk) = Some (refusal.Volume disk 0)
+size_refusal unfit.Unequal = Some (refusal.Rule 15)
+size_refusal why = None
+
+abbrev pub sizes_refused : (Spec → Option (List (List ℕ))) → VolumeSpec → Option Refusal
+sizes_refused holds (Plain s) = None
+sizes_refused holds (Joined first second mirror) = option_and_then size_refusal (size_fault (held_size holds first) (held_size holds second))
+
+-- The table of a volume, or the rule that the sizes of its disks break, or its own size or block 0.
+abbrev pub told_table : ℕ → Result TableSeen ℕ → Result TableSeen Refusal
+told_table number (Err rule) = Err (refusal.Volume number rule)
+told_table number (Ok table) = Ok table
+
+abbrev pub unless_refused : Option Refusal → Result TableSeen Refusal → Result TableSeen Refusal
+unless_refused (Some r) table = Err r
+unless_refused None table = table
+
+abbrev pub volume_table : (Spec → Option (List (List ℕ))) → VolumeSpec → Result TableSeen Refusal
+volume_table holds v = unless_refused (sizes_refused holds v) (told_table (volume_number v) (table_on (volume_blocks holds v)))
+
+-- The files of the volume, and behind them those of the volumes behind it.
+abbrev pub with_mounted : ℕ × List (List ℕ) → Result TableSeen Refusal → Result (List OpenedFile) Refusal → Result (List OpenedFile) Refusal
+with_mounted disk (Err r) more = Err r
 with_mounted disk (Ok table) (Err r) = Err r
 with_mounted disk (Ok table) (Ok files) = Ok (map (mounted_file disk) table.entries ++ files)
 
--- The files that disks have as they are attached, disk by disk, each in the order of its table; or the first disk's rule that is broken.
-abbrev pub mounted_files : List (ℕ × List (List ℕ)) → Result (List OpenedFile) Refusal
-mounted_files [] = Ok []
-mounted_files (disk ∷ disks) = with_mounted disk (table_on disk.1) (mounted_files disks)
+-- The files that volumes have as they are attached, volume by volume, each in the order of its table; or the first rule that is broken.
+abbrev pub mounted_files : (Spec → Option (List (List ℕ))) → List VolumeSpec → Result (List OpenedFile) Refusal
+mounted_files holds [] = Ok []
+mounted_files holds (v ∷ specs) = with_mounted (volume_number v, volume_blocks holds v) (volume_table holds v) (mounted_files holds specs)
 
 -- The extents of those of the files that lie on a disk.
 abbrev pub extents_of_disk : ℕ → List FileInfo → List Extent
@@ -158,12 +247,10 @@ if_few (Ok files) = if nat_lt 64 (length files) then Err (refusal.Rule 10) else 
 abbrev pub size_held : List (ℕ × List (List ℕ)) → ℕ → ℕ
 size_held disks number = unwrap_or (option_map length (lookup (λ n. n == number) disks)) 0
 
-abbrev pub files_opened_on : List (ℕ × List (List ℕ)) → List SetupLine → Result (List OpenedFile) Refusal
-files_opened_on disks setup = with_line_files (size_held disks) (if_few (mounted_files disks)) setup
-
--- THE FILES AS THEY ARE OPENED: those of the disks and then those of the script's lines; or the first set-up rule that is broken.
+-- THE FILES AS THEY ARE OPENED: those of the volumes and then those of the script's lines; or the first set-up rule that is broken.
 abbrev pub opened_files : PlanSeen → (Spec → Option (List (List ℕ))) → Result (List OpenedFile) Refusal
-opened_files plan holds = files_opened_on (disks_held holds (volume_specs plan)) plan.setup
+opened_files plan holds =
+    with_line_files (size_held (volumes_held holds (volume_specs plan))) (if_few (mounted_files holds (volume_specs plan))) plan.setup
 
 -- The records of the files that tables have, on the disks of these numbers.
 abbrev pub mounted_infos : List ℕ → List TableSeen → List FileInfo
@@ -175,14 +262,43 @@ mounted_infos (n ∷ numbers) (t ∷ tables) = map (info_on n) t.entries ++ moun
 abbrev pub size_among : List (ℕ × ℕ) → ℕ → ℕ
 size_among sizes number = unwrap_or (lookup (λ n. n == number) sizes) 0
 
--- Where the rack tells what it holds for a disk by path, block 0 of that says this table.
-abbrev pub RackSays : (Spec → Option (List (List ℕ))) → Spec → TableSeen → Type 0
-RackSays holds (spec.Blank number blocks) table = Unit {0}
-RackSays holds (spec.Path number path) table = IfSome (holds (spec.Path number path)) (λ blocks. table_on blocks ≡ Ok table)
+-- The rack tells what it holds for the disk of a spec, where that is by path; or for each disk of a volume.
+abbrev pub TellsSpec : (Spec → Option (List (List ℕ))) → Spec → Type 0
+TellsSpec holds (spec.Blank number blocks) = Unit {0}
+TellsSpec holds (spec.Path number path) = IsSome (holds (spec.Path number path))
 
--- The table that was read of the disk of a spec, of this number and size, as it was attached.
-pub record IsTableRead (holds : Spec → Option (List (List ℕ))) (s : Spec) (disk : ℕ × ℕ) (table : TableSeen) : Type 0 where
-  pub number : disk.0 ≡ spec_number s
+abbrev pub TellsDisks : (Spec → Option (List (List ℕ))) → VolumeSpec → Type 0
+TellsDisks holds (Plain s) = TellsSpec holds s
+TellsDisks holds (Joined first second mirror) = TellsSpec holds first × TellsSpec holds second
+
+-- A blank disk may not tell its blocks, and a volume of two tells them where both do: so of a blank disk and one by path the rack tells nothing.
+abbrev pub is_blank_spec : Spec → Bool
+is_blank_spec (spec.Blank number blocks) = true
+is_blank_spec (spec.Path number path) = false
+
+abbrev pub AreAlike : VolumeSpec → Type 0
+AreAlike (Plain s) = Unit {0}
+AreAlike (Joined first second mirror) = is_blank_spec first ≡ is_blank_spec second
+
+abbrev pub TellsVolume : (Spec → Option (List (List ℕ))) → VolumeSpec → Type 0
+TellsVolume holds v = TellsDisks holds v × AreAlike v
+
+-- What the rack tells of the blocks of a volume: those that it holds for a disk by path, or those of two such disks as one.
+abbrev pub content_held : (Spec → Option (List (List ℕ))) → Spec → Option (List (List ℕ))
+content_held holds (spec.Blank number blocks) = None
+content_held holds (spec.Path number path) = holds (spec.Path number path)
+
+abbrev pub volume_content : (Spec → Option (List (List ℕ))) → VolumeSpec → Option (List (List ℕ))
+volume_content holds (Plain s) = content_held holds s
+volume_content holds (Joined first second mirror) = joined_content mirror (content_held holds first) (content_held holds second)
+
+-- Where the rack tells them, block 0 says this table.
+abbrev pub RackSays : (Spec → Option (List (List ℕ))) → VolumeSpec → TableSeen → Type 0
+RackSays holds v table = IfSome (volume_content holds v) (λ blocks. table_on blocks ≡ Ok table)
+
+-- The table that was read of a volume, of this number and size, as it was attached.
+pub record IsTableRead (holds : Spec → Option (List (List ℕ))) (s : VolumeSpec) (disk : ℕ × ℕ) (table : TableSeen) : Type 0 where
+  pub number : disk.0 ≡ volume_number s
   pub some : 2 ≤ disk.1
   pub few : disk.1 ≤ 16384
   pub blocks : table.blocks ≡ disk.1
@@ -190,7 +306,7 @@ pub record IsTableRead (holds : Spec → Option (List (List ℕ))) (s : Spec) (d
   pub told : RackSays holds s table
 
 -- So is each of these tables, of the disk at its place.
-abbrev pub AreTablesRead : (Spec → Option (List (List ℕ))) → List Spec → List (ℕ × ℕ) → List TableSeen → Type 0
+abbrev pub AreTablesRead : (Spec → Option (List (List ℕ))) → List VolumeSpec → List (ℕ × ℕ) → List TableSeen → Type 0
 AreTablesRead holds [] [] [] = Unit {0}
 AreTablesRead holds (s ∷ specs) (d ∷ disks) (t ∷ tables) = IsTableRead holds s d t × AreTablesRead holds specs disks tables
 AreTablesRead holds specs disks tables = ⊥

@@ -1,14 +1,16 @@
 //! The disks are attached, and their tables read.
-ghost use Rattle.std.specs.Prelude.{◌≡◌, ◌≤◌, ◌<◌, ◌+◌, [], map, option_map, length, None, IfOk, IfErr, IfSome, OnErr, vec_capacity};
-ghost use Rattle.vm_report.specs.vm_script.Rules.{amounts_of, broken_rule};
+ghost use Rattle.std.specs.Prelude.{◌≡◌, ◌≤◌, ◌<◌, ◌+◌, [], map, option_map, length, false, None, IfOk, IfErr, IfSome, OnErr, vec_capacity};
+ghost use Rattle.vm_report.specs.vm_script.Rules.{amounts_of, broken_join, broken_rule, has_wrong_disk};
 ghost use Rattle.volume_files.specs.Attached.{AreAttached, HasRooms, StopsEarly, attached_seen, bare_disks};
 ghost use Rattle.volume_files.specs.Handed.{AreUncounted, IsSwapAsGiven, IsSwapFor, member_count, swap_members};
+ghost use Rattle.joined_disk.specs.JoinedSeen.{joined_seen};
 ghost use Rattle.volume_files.specs.Mounting.{HoldSame, UngivenCause};
 ghost use Rattle.volume_files.specs.Unfailed.{UnlessFailed};
 
 use crate::mounting::mount_all;
 use crate::stops::{HandedBack, OpenStop};
 use block_device::{AttachFault, Disk, Rack, Spec, Unopened};
+use joined_disk::JoinedDisk;
 use std::alloc::{AllocError, Global};
 use vm_report::{Plan, amounts_of};
 use volume_format::Table;
@@ -26,42 +28,47 @@ pub struct Attached<D: Disk> {
     pub back: Vec<D>,
 }
 
-// No disks yet, with room for eight in each list.
+// No disks yet, with room for eight in each list, and for one more that is handed back: where a volume of two isn't attached whole, both of
+// its disks come back in its place.
 fn take_rooms<D: Disk>(alloc: Global) -> Result<Attached<D>, AllocError>
-    ensures disks { IfOk result (λ a. (a.disks.items ≡ []) × (8 ≤ vec_capacity a.disks)) }
+    ensures disks { IfOk result (λ a. (a.disks.items ≡ []) × (9 ≤ vec_capacity a.disks)) }
     ensures tables { IfOk result (λ a. (a.tables.items ≡ []) × (8 ≤ vec_capacity a.tables)) }
     ensures swap { IfOk result (λ a. a.swap ≡ None) }
     ensures numbered { IfOk result (λ a. (a.numbered.items ≡ [])
         × (8 ≤ vec_capacity a.numbered)) }
-    ensures back { IfOk result (λ a. (a.back.items ≡ []) × (8 ≤ vec_capacity a.back)) }
+    ensures back { IfOk result (λ a. (a.back.items ≡ []) × (9 ≤ vec_capacity a.back)) }
 {
     Ok(Attached {
-        disks: Vec::with_capacity(alloc, 8)?,
+        disks: Vec::with_capacity(alloc, 9)?,
         tables: Vec::with_capacity(alloc, 8)?,
         swap: None,
         numbered: Vec::with_capacity(alloc, 8)?,
-        back: Vec::with_capacity(alloc, 8)?,
+        back: Vec::with_capacity(alloc, 9)?,
     })
 }
 
-// Attaches the swap disk, with a block for each slot, where there are slots.
-fn attach_swap<R: Rack>(slots: u32, rack: &mut R) -> Result<Option<Unopened<R::D>>, OpenStop>
-    ensures ok { IfOk result (λ swap. IsSwapFor slots (option_map (λ d. R.D.seen d.disk) swap)) }
+// Attaches the swap disk, with a block for each slot, where there are slots. It is never joined.
+fn attach_swap<R: Rack>(
+    slots: u32,
+    rack: &mut R,
+) -> Result<Option<Unopened<JoinedDisk<R::D>>>, OpenStop>
+    ensures ok { IfOk result (λ swap.
+        IsSwapFor slots (option_map (λ d. joined_seen R.D.seen d.disk) swap)) }
     ensures blank { IfOk result (λ swap.
-        IsSwapAsGiven slots (option_map (λ d. R.D.seen d.disk) swap)) }
+        IsSwapAsGiven slots (option_map (λ d. joined_seen R.D.seen d.disk) swap)) }
     ensures err { IfErr result (UngivenCause 8 (R.seen rack.old).faults (R.seen rack.new).faults) }
     ensures slots { IfErr result (λ _. 0 < slots) }
     // The rack counts the disk.
     ensures counted { IfOk result (λ swap. (R.seen rack.new).attached
         ≡ (R.seen rack.old).attached
-        + swap_members (option_map (λ d. R.D.seen d.disk) swap)) }
+        + swap_members (option_map (λ d. joined_seen R.D.seen d.disk) swap)) }
     ensures uncounted { OnErr result ((R.seen rack.new).attached ≡ (R.seen rack.old).attached) }
     ensures same { HoldSame (R.seen rack.new).holds (R.seen rack.old).holds }
     ensures later { (R.seen rack.old).faults ≤ (R.seen rack.new).faults }
     ensures steady { UnlessFailed result
         ((R.seen rack.new).faults ≡ (R.seen rack.old).faults) }
     ensures unfailed { IfOk result (λ swap.
-        IfSome (option_map (λ d. R.D.seen d.disk) swap) (λ d. d.faults ≡ 0)) }
+        IfSome (option_map (λ d. joined_seen R.D.seen d.disk) swap) (λ d. d.faults ≡ 0)) }
 {
     if slots == 0 {
         return Ok(None);
@@ -71,7 +78,7 @@ fn attach_swap<R: Rack>(slots: u32, rack: &mut R) -> Result<Option<Unopened<R::D
         blocks: slots,
     };
     match Unopened::attach(rack, &spec) {
-        Ok(disk) => Ok(Some(disk)),
+        Ok(disk) => Ok(Some(disk.alone())),
         Err(AttachFault::Failed(fault)) => Err(OpenStop::Failed(fault)),
         Err(AttachFault::Memory) => Err(OpenStop::Memory),
     }
@@ -124,35 +131,39 @@ fn attach_within<R: Rack>(
     alloc: Global,
     plan: &Plan,
     rack: &mut R,
-    rooms: Attached<R::D>,
-) -> Result<Attached<R::D>, HandedBack<R::D>>
-    requires disks { (rooms.disks.items ≡ []) × (8 ≤ vec_capacity rooms.disks) }
+    rooms: Attached<JoinedDisk<R::D>>,
+) -> Result<Attached<JoinedDisk<R::D>>, HandedBack<JoinedDisk<R::D>>>
+    requires right { has_wrong_disk plan.now.setup ≡ false }
+    requires joins { broken_join plan.now.setup ≡ None }
+    requires disks { (rooms.disks.items ≡ []) × (9 ≤ vec_capacity rooms.disks) }
     requires tables { (rooms.tables.items ≡ []) × (8 ≤ vec_capacity rooms.tables) }
     requires swap { rooms.swap ≡ None }
     requires numbered { (rooms.numbered.items ≡ []) × (8 ≤ vec_capacity rooms.numbered) }
-    requires back { (rooms.back.items ≡ []) × (8 ≤ vec_capacity rooms.back) }
+    requires back { (rooms.back.items ≡ []) × (9 ≤ vec_capacity rooms.back) }
     // As `attach`.
     ensures ok { IfOk result (λ a. AreAttached plan.now (R.seen rack.old).holds
-        (attached_seen R.D.seen a)) }
+        (attached_seen (joined_seen R.D.seen) a)) }
     ensures rooms { IfOk result HasRooms }
     ensures err { IfErr result (StopsEarly plan.now (R.seen rack.old).holds
-        (R.seen rack.old).faults (R.seen rack.new).faults R.D.seen) }
+        (R.seen rack.old).faults (R.seen rack.new).faults (joined_seen R.D.seen)) }
     // Each disk that the rack attached is there, or is handed back.
     ensures kept { IfOk result (λ a. (R.seen rack.new).attached ≡ (R.seen rack.old).attached
-        + member_count (bare_disks (attached_seen R.D.seen a).disks)
-        (attached_seen R.D.seen a).swap) }
+        + member_count (bare_disks (attached_seen (joined_seen R.D.seen) a).disks)
+        (attached_seen (joined_seen R.D.seen) a).swap) }
     ensures back { IfErr result (λ s. (R.seen rack.new).attached ≡ (R.seen rack.old).attached
-        + member_count (map R.D.seen s.disks.items) (option_map R.D.seen s.swap)) }
+        + member_count (map (joined_seen R.D.seen) s.disks.items)
+        (option_map (joined_seen R.D.seen) s.swap)) }
     ensures later { (R.seen rack.old).faults ≤ (R.seen rack.new).faults }
     // Unless the rack or a disk failed, none counted a fault.
     ensures steady { IfOk result (λ _. (R.seen rack.new).faults ≡ (R.seen rack.old).faults) }
     ensures uncounted { IfOk result (λ a.
-        AreUncounted (bare_disks (attached_seen R.D.seen a).disks)
-        (attached_seen R.D.seen a).swap) }
+        AreUncounted (bare_disks (attached_seen (joined_seen R.D.seen) a).disks)
+        (attached_seen (joined_seen R.D.seen) a).swap) }
     ensures lacks { IfErr result (λ s. s.why ≡ OpenStop.Memory
         → (R.seen rack.new).faults ≡ (R.seen rack.old).faults) }
     ensures lacked { IfErr result (λ s. s.why ≡ OpenStop.Memory
-        → AreUncounted (map R.D.seen s.disks.items) (option_map R.D.seen s.swap)) }
+        → AreUncounted (map (joined_seen R.D.seen) s.disks.items)
+        (option_map (joined_seen R.D.seen) s.swap)) }
 {
     let mut attached = rooms;
     let swap = match attach_swap(amounts_of(plan.setup()).slots, rack) {
@@ -180,29 +191,31 @@ pub fn attach<R: Rack>(
     alloc: Global,
     plan: &Plan,
     rack: &mut R,
-) -> Result<Attached<R::D>, HandedBack<R::D>>
+) -> Result<Attached<JoinedDisk<R::D>>, HandedBack<JoinedDisk<R::D>>>
     requires { broken_rule plan.now ≡ None }
     ensures ok { IfOk result (λ a. AreAttached plan.now (R.seen rack.old).holds
-        (attached_seen R.D.seen a)) }
+        (attached_seen (joined_seen R.D.seen) a)) }
     ensures rooms { IfOk result HasRooms }
     ensures err { IfErr result (StopsEarly plan.now (R.seen rack.old).holds
-        (R.seen rack.old).faults (R.seen rack.new).faults R.D.seen) }
+        (R.seen rack.old).faults (R.seen rack.new).faults (joined_seen R.D.seen)) }
     // Each disk that the rack attached is there, or is handed back.
     ensures kept { IfOk result (λ a. (R.seen rack.new).attached ≡ (R.seen rack.old).attached
-        + member_count (bare_disks (attached_seen R.D.seen a).disks)
-        (attached_seen R.D.seen a).swap) }
+        + member_count (bare_disks (attached_seen (joined_seen R.D.seen) a).disks)
+        (attached_seen (joined_seen R.D.seen) a).swap) }
     ensures back { IfErr result (λ s. (R.seen rack.new).attached ≡ (R.seen rack.old).attached
-        + member_count (map R.D.seen s.disks.items) (option_map R.D.seen s.swap)) }
+        + member_count (map (joined_seen R.D.seen) s.disks.items)
+        (option_map (joined_seen R.D.seen) s.swap)) }
     ensures later { (R.seen rack.old).faults ≤ (R.seen rack.new).faults }
     // Unless the rack or a disk failed, none counted a fault.
     ensures steady { IfOk result (λ _. (R.seen rack.new).faults ≡ (R.seen rack.old).faults) }
     ensures uncounted { IfOk result (λ a.
-        AreUncounted (bare_disks (attached_seen R.D.seen a).disks)
-        (attached_seen R.D.seen a).swap) }
+        AreUncounted (bare_disks (attached_seen (joined_seen R.D.seen) a).disks)
+        (attached_seen (joined_seen R.D.seen) a).swap) }
     ensures lacks { IfErr result (λ s. s.why ≡ OpenStop.Memory
         → (R.seen rack.new).faults ≡ (R.seen rack.old).faults) }
     ensures lacked { IfErr result (λ s. s.why ≡ OpenStop.Memory
-        → AreUncounted (map R.D.seen s.disks.items) (option_map R.D.seen s.swap)) }
+        → AreUncounted (map (joined_seen R.D.seen) s.disks.items)
+        (option_map (joined_seen R.D.seen) s.swap)) }
 {
     match take_rooms(alloc) {
         Ok(rooms) => attach_within(alloc, plan, rack, rooms),

@@ -22,6 +22,7 @@ pub use block_device::{
     Disk, DiskFault, OpenFault, Rack, ReadFault, Sink, Source, Unopened, read_to_limit, write_all,
 };
 pub use closing::{TableStop, write_tables};
+pub use joined_disk::JoinedDisk;
 pub use page_disk::PageDisk;
 pub use placing::{Placed, place};
 pub use showing::{Heading, ShowStop, show_files};

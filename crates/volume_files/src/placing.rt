@@ -1,6 +1,7 @@
 //! The files are placed on the disks.
 ghost use Rattle.std.specs.Prelude.{ℕ, ◌≡◌, ◌≤◌, All, List, Option, IfOk, IfErr, None, length, map, option_map};
 ghost use Rattle.block_device.specs.declared.rack.Spec.{Spec};
+ghost use Rattle.volume_disks.specs.declared.volume_spec.VolumeSpec.{VolumeSpec};
 ghost use Rattle.vm_report.specs.vm_script.FileNames.{with_files};
 ghost use Rattle.vm_report.specs.vm_script.Rules.{broken_rule};
 ghost use Rattle.vm_report.specs.vm_script.Sound.{IsSoundSetup};
@@ -62,7 +63,7 @@ fn place_files<D: Disk>(
     disks: &mut [Unopened<D>],
 ) -> Result<(Files, Vec<ByteText>), PlaceStop>
     // The disks are mounted, and the lines keep the rules.
-    requires mounted { (holds : Spec → Option (List (List ℕ))) × (specs : List Spec)
+    requires mounted { (holds : Spec → Option (List (List ℕ))) × (specs : List VolumeSpec)
         × AreMounted holds specs (map (numbered_seen D.seen) disks.old) tables.now }
     requires distinct { Distinct (attached_numbers disks.old) }
     requires placeable { All (λ l. IsPlaceable l.act) setup.now }
@@ -98,7 +99,7 @@ fn number_files<D: Disk>(
     disks: &mut [Unopened<D>],
 ) -> Result<Files, PlaceStop>
     // The disks are mounted, and the lines keep the rules.
-    requires mounted { (holds : Spec → Option (List (List ℕ))) × (specs : List Spec)
+    requires mounted { (holds : Spec → Option (List (List ℕ))) × (specs : List VolumeSpec)
         × AreMounted holds specs (map (numbered_seen D.seen) disks.old) tables.now }
     requires distinct { Distinct (attached_numbers disks.old) }
     requires placeable { All (λ l. IsPlaceable l.act) plan.old.setup }

@@ -1,6 +1,7 @@
 use Rattle.std.proofs.Common.{◌∙◌, map, refl, sym}
 use Rattle.std.specs.Prelude.{string_bytes}
 use Rattle.std.proofs.lemmas.Result.{IfErr-weaker, IfOk-weaker}
+use Rattle.volume_files.specs.joined_disk.JoinedSeen.{joined_seen}
 use Rattle.vm_run.specs.Asked.{given_of}
 use Rattle.vm_run.proofs.EarlyEnds.{stopped-asking, stopped-checking}
 use Rattle.vm_run.specs.declared.reading.Request.{Request}
@@ -32,7 +33,7 @@ returns-in-Ok-Run-clause-err g c =
 pub returns-in-Err-clause-err : goal.returns-in-Err-clause-err
 returns-in-Err-clause-err g c = λ st ft.
     let given = given_of (map string_bytes c.args.words.now) (g.S.Source.seen c.args.script.now) (g.R.Rack.seen c.args.rack.now) in
-    stopped-asking st ft given _ (g.K.Sink.seen c.args.out.now) refl refl g.R.D.Disk.seen c.bare_stop-in-Err.result c.in-Err.ending c.bare_stop-in-Err.ensures.ending c.bare_stop-in-Err.ensures.entries
+    stopped-asking st ft given _ (g.K.Sink.seen c.args.out.now) refl refl (joined_seen g.R.D.Disk.seen) c.bare_stop-in-Err.result c.in-Err.ending c.bare_stop-in-Err.ensures.ending c.bare_stop-in-Err.ensures.entries
     c.bare_stop-in-Err.ensures.counts c.bare_stop-in-Err.ensures.disks c.bare_stop-in-Err.ensures.swap (c.in-Err.ensures.asks given.holds)
 
 pub returns-in-Ok-Run-clause-served : goal.returns-in-Ok-Run-clause-served
@@ -50,7 +51,7 @@ pub returns-in-Ok-Check-clause-err : goal.returns-in-Ok-Check-clause-err
 returns-in-Ok-Check-clause-err g c = λ st ft.
     let given = given_of (map string_bytes c.args.words.now) (g.S.Source.seen c.args.script.now) (g.R.Rack.seen c.args.rack.now) in
     stopped-checking st ft given _ c.in-Ok-Check.answer (g.K.Sink.seen c.args.out.now) (g.K.Sink.seen c.tell_answer.new.out) refl refl (rw c.in-Ok-Check.field-0-is at (c.in-Ok-Check.ensures.asks given.holds))
-    g.R.D.Disk.seen c.bare_stop.result c.tell_answer.result c.bare_stop.ensures.ending c.bare_stop.ensures.entries
+    (joined_seen g.R.D.Disk.seen) c.bare_stop.result c.tell_answer.result c.bare_stop.ensures.ending c.bare_stop.ensures.entries
     c.bare_stop.ensures.counts c.bare_stop.ensures.disks c.bare_stop.ensures.swap c.tell_answer.ensures.told
 
 pub returns-in-Ok-Check-clause-lacks : goal.returns-in-Ok-Check-clause-lacks

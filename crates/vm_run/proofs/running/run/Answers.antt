@@ -1,5 +1,6 @@
 use Rattle.std.proofs.Common.{◌+◌, ◌∙◌, ℕ, ap, map, sym}
 use Rattle.std.specs.Prelude.{option_map, string_bytes}
+use Rattle.volume_files.specs.joined_disk.JoinedSeen.{joined_seen}
 use Rattle.vm_run.specs.Asked.{given_of}
 use Rattle.volume_files.proofs.DiskCounts.{count-as}
 use Rattle.vm_run.proofs.LastLines.{ends-so}
@@ -9,7 +10,7 @@ use Rattle.vm_run.proofs.running.run.Goals as goal
 
 pub returns-clause-ends : goal.returns-clause-ends
 returns-clause-ends g c =
-    let seen = g.R.D.Disk.seen in
+    let seen = (joined_seen g.R.D.Disk.seen) in
     let stop = c.course-stop.result in
     let out = c.conclude.result in
     let how = c.conclude.ensures.ends in

@@ -1,9 +1,12 @@
-use Rattle.std.proofs.Common.{rules, ◌<◌, map, ◌∙◌, arith}
+use Rattle.std.proofs.Common.{rules, ◌<◌, ◌≡◌, ◌∙◌, arith, Some}
 use Rattle.std.specs.Prelude.{Err, IfErr}
 use Rattle.std.proofs.lemmas.Result.{err_from_is_err_and}
-use Rattle.volume_files.specs.Mounting.{HaltsNumber, Halts}
+use Rattle.volume_disks.specs.declared.volume_spec.VolumeSpec.{VolumeSpec}
+use Rattle.volume_files.specs.Mounting.{HaltsNumber, Halts, volumes_seen}
+use Rattle.volume_files.specs.Opened.{volume_numbered}
+use Rattle.volume_files.proofs.JoinedNumbers.{holds_as}
+use Rattle.volume_files.proofs.MountDisks.{HoldsAs}
 use Rattle.volume_files.proofs.MountEnds.{err_then}
-use Rattle.volume_files.specs.Attached.{numbered_seen}
 use Rattle.volume_files.proofs.MountStops.{mount_step, halted}
 use Rattle.volume_files.proofs.Unfailing.{unless-failed}
 use Rattle.volume_files.proofs.mounting.mount_all.Goals as goal
@@ -14,14 +17,15 @@ returns-in_err-mount_numbered-clause-err g c = λ holds same.
     let n = c.loop-number.number in
     let lt : n < 8 = c.loop-number-test.true in
     let old = (g.R.Rack.seen c.args.rack.now).faults in
+    let mid = g.R.Rack.seen c.loop-number.rack in
     let new = (g.R.Rack.seen c.mount_numbered.new.rack).faults in
-    let front = map (numbered_seen g.R.D.Disk.seen) c.loop-number.disks.items in
-    let disks = map (numbered_seen g.R.D.Disk.seen) c.mount_numbered.new.disks.items in
-    let how : IfErr c.from_residual.result (HaltsNumber c.args.setup.now n (g.R.Rack.seen c.loop-number.rack).holds (g.R.Rack.seen c.loop-number.rack).faults new front disks) = search rules in
-    err_then c.from_residual.result (HaltsNumber c.args.setup.now n (g.R.Rack.seen c.loop-number.rack).holds (g.R.Rack.seen c.loop-number.rack).faults new front disks)
-    (Halts c.args.setup.now holds old new disks)
-    (λ e h. halted c.args.setup.now n (g.R.Rack.seen c.loop-number.rack).holds holds old (g.R.Rack.seen c.loop-number.rack).faults new front disks c.loop-number.tables.items e lt
-    (λ s is. inv.others s (omega (arith, is)) ∙ same s (omega (arith, is, lt))) inv.later (inv.mounted holds same) h) how
+    let front = volumes_seen g.R.D.Disk.seen c.loop-number.disks.items in
+    let disks = volumes_seen g.R.D.Disk.seen c.mount_numbered.new.disks.items in
+    let agree : (v : VolumeSpec) → volume_numbered c.args.setup.now n ≡ Some v → HoldsAs mid.holds holds v =
+    λ v is. holds_as c.args.setup.now n v mid.holds holds c.requires.right c.requires.joins lt is (λ s other low. inv.others s other ∙ same s low) in
+    let how : IfErr c.from_residual.result (HaltsNumber c.args.setup.now n mid.holds mid.faults new front disks) = search rules in
+    err_then c.from_residual.result (HaltsNumber c.args.setup.now n mid.holds mid.faults new front disks) (Halts c.args.setup.now holds old new disks)
+    (λ e h. halted c.args.setup.now n mid.holds holds old mid.faults new front disks c.loop-number.tables.items e lt agree inv.later (inv.mounted holds same) h) how
 
 pub loop-number-preserved : goal.loop-number-preserved
 loop-number-preserved g c =
@@ -29,16 +33,18 @@ loop-number-preserved g c =
     let n = c.loop-number.number in
     let lt : n < 8 = c.loop-number-test.true in
     let m = c.mount_numbered.ensures in
+    let mid = g.R.Rack.seen c.loop-number.rack in
     record {
-      mounted = λ holds same. mount_step c.args.setup.now n (g.R.Rack.seen c.loop-number.rack).holds holds (map (numbered_seen g.R.D.Disk.seen) c.loop-number.disks.items)
-          (map (numbered_seen g.R.D.Disk.seen) c.mount_numbered.new.disks.items) c.loop-number.tables.items c.mount_numbered.new.tables.items
-          (λ s e. inv.others s (omega (arith, e)) ∙ same s (omega (arith, e, lt))) (inv.mounted holds same) c.in_ok-mount_numbered.ensures.ok;
-      others = λ s le. m.others s (λ e. absurd (omega (arith, le, e))) ∙ inv.others s (omega (arith, le));
+      mounted = λ holds same. mount_step c.args.setup.now n mid.holds holds (volumes_seen g.R.D.Disk.seen c.loop-number.disks.items)
+          (volumes_seen g.R.D.Disk.seen c.mount_numbered.new.disks.items) c.loop-number.tables.items c.mount_numbered.new.tables.items
+          (λ v is. holds_as c.args.setup.now n v mid.holds holds c.requires.right c.requires.joins lt is (λ s other low. inv.others s other ∙ same s low))
+          (inv.mounted holds same) c.in_ok-mount_numbered.ensures.ok;
+      others = λ s other. m.others s (other n (omega arith)) ∙ inv.others s (λ k below. other k (omega (arith, below)));
       later = omega (arith, inv.later, m.later);
       steady = c.in_ok-mount_numbered.ensures.steady ∙ inv.steady;
       uncounted = c.in_ok-mount_numbered.ensures.uncounted inv.uncounted;
       count = omega (arith, inv.count, m.count);
-      few_disks = omega (arith, inv.few_disks, m.disks);
+      few_disks = omega (arith, inv.few_disks, c.in_ok-mount_numbered.ensures.disks);
       few_tables = omega (arith, inv.few_tables, m.tables);
       disks_room = omega (arith, inv.disks_room, m.room);
       tables_room = omega (arith, inv.tables_room, m.tables_room);

@@ -1,5 +1,5 @@
 use Rattle.std.specs.Prelude.{ℕ, ◌≡◌, List, length, map, option_map, None}
-use Rattle.std.proofs.Common.{Vec, arith, refl, sym, ap, ◌∙◌, subst}
+use Rattle.std.proofs.Common.{Vec, arith, sym, ap, ◌∙◌, subst}
 use Rattle.std.specs.Vec.{with_items}
 use Rattle.block_device.specs.DiskSeen.{DiskSeen}
 use Rattle.block_device.specs.declared.numbered.NumberedDisk.{NumberedDisk}
@@ -10,7 +10,7 @@ use Rattle.vm_report.specs.vm_script.FileNames.{with_files}
 use Rattle.volume_files.specs.Attached.{AreMounted, ArePlaced, bare_disks, numbered_seen}
 use Rattle.volume_files.specs.Handed.{AreUncounted, members_of}
 use Rattle.volume_files.specs.Unfailed.{counts_of}
-use Rattle.volume_files.specs.Opened.{disk_specs}
+use Rattle.volume_files.specs.Opened.{setup_volumes}
 use Rattle.volume_files.specs.Placing.{Distinct, PlaceStopped, PlacesFiles, RemainThere, attached_numbers, found_files, names_made, placing_read}
 use Rattle.volume_files.proofs.DiskCounts.{members-remain}
 use Rattle.volume_files.proofs.AllPlaced.{distinct-attached, placed-all}
@@ -25,7 +25,7 @@ use Rattle.volume_files.proofs.placing.place.Goals as goal
 pub number_files-requires-clause-mounted : goal.number_files-requires-clause-mounted
 number_files-requires-clause-mounted g c =
     let a = c.requires.attached in
-    let specs = disk_specs c.args.plan.now.setup in (
+    let specs = setup_volumes c.args.plan.now.setup in (
       a.0,
       specs,
       subst (λ (ds : List (NumberedDisk _)). AreMounted a.0 specs (map (numbered_seen g.D.Disk.seen) ds) c.deref.result.now) (sym c.deref_mut.ensures.value)
@@ -49,8 +49,8 @@ returns-in-Ok-clause-ok g c = λ holds a.
     let new = c.number_files.new.disks in
     let ts = c.args.attached.tables.items in
     let files = c.in-Ok.files in
-    let m : AreMounted holds (disk_specs plan.setup) (map (numbered_seen seen) old) ts =
-    subst (λ (ds : List (NumberedDisk _)). AreMounted holds (disk_specs plan.setup) (map (numbered_seen seen) ds) ts) (sym c.deref_mut.ensures.value) a.mounted in
+    let m : AreMounted holds (setup_volumes plan.setup) (map (numbered_seen seen) old) ts =
+    subst (λ (ds : List (NumberedDisk _)). AreMounted holds (setup_volumes plan.setup) (map (numbered_seen seen) ds) ts) (sym c.deref_mut.ensures.value) a.mounted in
     let placed = subst (λ (xs : List TableSeen). PlacesFiles seen plan.setup old xs new files) c.deref.ensures.value c.in-Ok.ensures.ok in
     let remain = c.number_files.ensures.remain in
     let written : (with_items c.args.attached.disks new).items ≡ new =
@@ -95,8 +95,8 @@ returns-in-Err-clause-err g c = λ holds count a.
     let old = c.deref_mut.result.now in
     let new = c.number_files.new.disks in
     let ts = c.args.attached.tables.items in
-    let m : AreMounted holds (disk_specs plan.setup) (map (numbered_seen seen) old) ts =
-    subst (λ (ds : List (NumberedDisk _)). AreMounted holds (disk_specs plan.setup) (map (numbered_seen seen) ds) ts) (sym c.deref_mut.ensures.value) a.mounted in
+    let m : AreMounted holds (setup_volumes plan.setup) (map (numbered_seen seen) old) ts =
+    subst (λ (ds : List (NumberedDisk _)). AreMounted holds (setup_volumes plan.setup) (map (numbered_seen seen) ds) ts) (sym c.deref_mut.ensures.value) a.mounted in
     let remain = c.number_files.ensures.remain in
     let same : length new ≡ length c.args.attached.disks.items = remain.count ∙ ap (λ (ds : List (NumberedDisk _)). length ds) c.deref_mut.ensures.value in
     let written : (with_items c.args.attached.disks new).items ≡ new = items-written c.args.attached.disks new same in
