@@ -151,7 +151,8 @@ fn opened(alloc: Global, slots: u32) -> Result<FlatState, AllocError> {
     Ok(state)
 }
 
-fn acts(flat: &mut FlatState, entry: &Entry) -> Result<bool, AllocError> {
+/// Takes the entry, and says whether it is a step of flat memory.
+pub(crate) fn acts(flat: &mut FlatState, entry: &Entry) -> Result<bool, AllocError> {
     if !entry.call.is_well_formed() {
         return Ok(false);
     }

@@ -1,4 +1,6 @@
 //! One run of a script over memory forms, and what it left.
+ghost use Rattle.std.specs.Prelude.{◌≤◌};
+
 use block_device::{
     Block, MemDisk, MemRack, MemSink, MemSource, PathText, Rack, RackFault, Spec, Untold,
 };
@@ -171,6 +173,42 @@ pub(crate) fn run_kept(
     }
     let (outcome, text) = run_over(rt, alloc, words, script, fails, &mut rack)?;
     left_of(alloc, outcome, text)
+}
+
+// The calls of a disk that fails from this one on; none where it is 0.
+fn calls_from(alloc: Global, first: u64) -> Result<Vec<u64>, AllocError>
+    requires { first ≤ 1000 }
+{
+    let mut calls = Vec::new(alloc);
+    if 0 < first {
+        for call in first..first + 100 {
+            calls.push(call)?;
+        }
+    }
+    Ok(calls)
+}
+
+/// Runs a script over memory forms, with a disk of these blocks under the path v where there are any. The disks 0 and 1 fail at
+/// these calls and at each later one; 0 stands for none.
+pub(crate) fn run_failing(
+    rt: &(impl Threads + Wait + Sync),
+    alloc: Global,
+    script: &[u8],
+    blocks: &[Block],
+    disk_0: u64,
+    disk_1: u64,
+) -> Result<Left, AllocError>
+    requires { (disk_0 ≤ 1000) × (disk_1 ≤ 1000) }
+{
+    let mut calls = Vec::new(alloc);
+    calls.push(calls_from(alloc, disk_0)?)?;
+    calls.push(calls_from(alloc, disk_1)?)?;
+    let mut rack = MemRack::new(alloc, Vec::new(alloc), calls);
+    if !blocks.is_empty() && blocks.len() <= 16_384 {
+        rack.keep(PathText::new(alloc, b"v")?, Vec::from_slice(alloc, blocks)?)?;
+    }
+    let (outcome, text) = run_over(rt, alloc, NO_WORDS, script, &NEVER, &mut rack)?;
+    left_of(alloc, &outcome, text)
 }
 
 // A rack whose disks don't tell what they hold.
