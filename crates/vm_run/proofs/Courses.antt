@@ -36,6 +36,7 @@ use Rattle.vm_run.specs.Course.{IsReady}
 use Rattle.vm_run.specs.Ended.{End, HasLateCause, CountsReach}
 use Rattle.volume_files.specs.Handed.{HaveTold, HandsAll, HasSpecSize, volume_numbers, disk_handed, volumes_of, sizes_of}
 use Rattle.volume_files.specs.Opened.{OpenedFile, infos_of, names_of, opening_flat, setup_volumes, stored_bytes, volume_number}
+use Rattle.vm_run.specs.OnDisks.{HoldFronts}
 use Rattle.vm_run.specs.Played.{IsStarted, KernelLeaves, LeftSeen, IsDiskOf}
 use Rattle.volume_files.specs.Written.{infos_made}
 use Rattle.vm_run.specs.Run.{AreClosedBytes, AreOpenedBytes, Begun, ClosesFiles, LeavesFiles, DisksTell, IsOpened, flat_opened, flat_closed}
@@ -44,6 +45,7 @@ use Rattle.volume_files.proofs.DiskLists.{at-map, in-map, mate, number, to-all, 
 use Rattle.vm_run.proofs.AskedRules.{asked-rules}
 use Rattle.vm_run.proofs.DisksTell.{file-disks-tell}
 use Rattle.vm_run.proofs.KeptBytes.{stored-kept}
+use Rattle.vm_run.proofs.KeptFronts.{fronts-kept}
 use Rattle.vm_run.proofs.Returned.{swap-serves-still}
 use Rattle.volume_files.proofs.GivenFiles.{comes-sizes}
 
@@ -186,6 +188,13 @@ module _ (st : ℕ) (ft : Option RunFault) (g : Given) (what : Asked) (files : L
       subst (λ (z : List (ℕ × ℕ)). IsTextFor (printed_text what.plan z files bytes l.history.entries) (opening_flat what.plan z files) l.history.entries) (sym sizes-new)
       (run-stands what.plan g.holds files a made l.history.entries bytes ran (record { lengths = ready.read.lengths; told = ready.read.told (disks-told t) }))
 
+  -- what its blocks hold
+  fronts : DisksTell g what ended → HoldFronts (flat_opened what files (bare_disks new)) l.history.entries new
+  fronts t =
+      let told = told-left t.disks in
+      subst (λ (F : Flat). HoldFronts F l.history.entries new) flat-same
+      (fronts-kept (opening_flat plan (disk_sizes a.disks) files) l.history.entries l.disks new w (left.places told) (left.fronts told))
+
   pub begun : All (λ (e : Entry). HasToldCounts e.reply) l.history.entries → Begun g what files bytes ended
   begun counts = record {
     opened = is-opened;
@@ -195,6 +204,7 @@ module _ (st : ℕ) (ft : Option RunFault) (g : Given) (what : Asked) (files : L
     refusals = subst (λ (F : Flat). RefusesAsDue F l.history.entries) flat-same left.refusals;
     counted = left.counted;
     reached = reached;
+    fronts = λ t. subst (HoldFronts (flat_opened what files (bare_disks new)) l.history.entries) (sym pairs-new) (fronts t);
   }
 
   names-left : map (λ (v : VnodeSeen). v.info.name) l.files.files ≡ names_of files

@@ -37,3 +37,6 @@ pub mod CallerRooms
 pub mod KernelRows
 pub mod AskedRules
 pub mod PrintedTraces
+pub mod Fronts
+pub mod BlocksLeft
+pub mod KeptFronts

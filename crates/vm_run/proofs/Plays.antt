@@ -31,11 +31,12 @@ use Rattle.vm_run.specs.Played.{HasPlayed, IsStarted, KernelLeaves, IsPlayable, 
 use Rattle.volume_files.specs.Written.{HaveDisks}
 use Rattle.vm_run.proofs.Alone.{alone-is}
 use Rattle.vm_run.proofs.BlockLines.{plays-one}
+use Rattle.vm_run.proofs.BlocksLeft.{fronts-left, places-left}
 use Rattle.vm_run.proofs.FileBytesLeft.{stored-left}
 use Rattle.vm_run.proofs.FitLines.{fit-all}
 use Rattle.vm_run.proofs.KernelRows.{played-since}
 use Rattle.vm_run.proofs.FileRecords.{extents-left, infos-left, legal-left, lie-left, modes-left, told-left}
-use Rattle.vm_run.proofs.Returned.{Closes, counts-left, disks-left, fault-left, have-left, reached-left, swap-left}
+use Rattle.vm_run.proofs.Returned.{Closes, all-tell, counts-left, disks-left, fault-left, have-left, reached-left, swap-left}
 use Rattle.vm_run.proofs.ToldLines.{front-told, whole-told}
 
 -- THE ONE BLOCK may be run
@@ -119,6 +120,8 @@ is-left plan F disks swap files s t whole l st played c =
       extents = extents-left F s t l since before c;
       infos = infos-left F s t l since before c;
       stored = stored-left F s t l since before c;
+      fronts = λ told. fronts-left F s t l since before c told t.marks (after.marks (all-tell F s t l since before c told)) after.failures;
+      places = λ told. places-left F s t l since before c told t.marks (after.marks (all-tell F s t l since before c told)) after.failures;
       fault = fault-left F s t l since before c;
       counts = counts-left F s t l since before c;
       disks = disks-left F s t l since before c files have st.placed;

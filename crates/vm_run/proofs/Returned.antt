@@ -35,7 +35,7 @@ use Rattle.vm_core.proofs.vm_world.StateSteps.{disk_there}
 use Rattle.vm_core.proofs.vm_world.FlatWhole.{some-inj}
 use Rattle.vm_core.proofs.vm_world.Told.{event_law}
 use Rattle.vm_core.specs.Closing.{AreDisksOf}
-use Rattle.vm_core.specs.Finish.{disk_at, disks_of, HoldAllFiles, IsLastFault, KeepsDisk, KeepDisks, KeepsOtherBlocks, KeepRecords}
+use Rattle.vm_core.specs.Finish.{disk_at, disks_of, HoldAllFiles, IsLastFault, LeaveAllPages, KeepsDisk, KeepDisks, KeepsOtherBlocks, KeepRecords}
 use Rattle.vm_core.proofs.Fills.{are-kept, number-of}
 use Rattle.vm_core.proofs.Finishes.{still, disk-in-order, are-disks}
 use Rattle.volume_files.specs.Attached.{bare_disks}
@@ -50,6 +50,7 @@ pub record Closes (t : KernelState) (l : LeftSeen) : Type 0 where
   pub counts : (disk : ℕ) → slice_index_or l.history.faults disk None ≡ home_faults (bay_at t.memory.world.store.bays disk)
   pub closed : IfNone l.fault (AllTell t.memory.world no_notes → HoldAllFiles t.memory.world l.disks)
   pub fault : IfSome l.fault (IsLastFault (disks_of t.memory.world) l.disks)
+  pub left : IfSome l.fault (λ fault. AllTell t.memory.world no_notes → LeaveAllPages t.memory.world (disks_of t.memory.world) l.disks fault.disk)
   pub disks : KeepDisks t.memory.world.files (disks_of t.memory.world) l.disks
   pub swap : MatchOption l.swap (bay_at t.memory.world.store.bays 8 ≡ missing) (λ disk. bay_at t.memory.world.store.bays 8 ≡ home disk)
   pub files : KeepRecords t.memory.world.files l.files
@@ -138,14 +139,14 @@ module _ (F : Flat) (s t : KernelState) (l : LeftSeen) (since : IsSince s t no_s
       ap (λ (d : ℕ × DiskSeen). d.0) (disk-in-order t.memory.world.store.bays t.memory.world.store.order i x)
       ∙ ap (λ (o : List ℕ). slice_index o i) order-same ∙ sym (ap (λ (d : ℕ × DiskSeen). d.0) (disk-in-order s.memory.world.store.bays s.memory.world.store.order i y))
 
-  home-after : (i : ℕ) → i < length old → bay_at t.memory.world.store.bays (disk_at old i).0 ≡ home (disk_at old i).1
+  pub home-after : (i : ℕ) → i < length old → bay_at t.memory.world.store.bays (disk_at old i).0 ≡ home (disk_at old i).1
   home-after i lt = home-there t.memory.world t.memory.spaces i after.memory after.notes lt
 
   -- a disk that came back, and what it was as the kernel was closed
-  within-new : (i : ℕ) (d : ℕ × DiskSeen) → slice_get l.disks i ≡ Some d → i < length old
+  pub within-new : (i : ℕ) (d : ℕ × DiskSeen) → slice_get l.disks i ≡ Some d → i < length old
   within-new i d at = let lt = slice_get_within l.disks i d at in let e = long-new in omega (arith, lt, e)
 
-  kept : (i : ℕ) (d : ℕ × DiskSeen) → slice_get l.disks i ≡ Some d → KeepsDisk t.memory.world.files (disk_at old i) d
+  pub kept : (i : ℕ) (d : ℕ × DiskSeen) → slice_get l.disks i ≡ Some d → KeepsDisk t.memory.world.files (disk_at old i) d
   kept i d at = subst (KeepsDisk t.memory.world.files (disk_at old i)) (at-place l.disks i d at) (c.disks.each i (within-new i d at))
 
   -- THE COUNTS

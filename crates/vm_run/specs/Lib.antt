@@ -1,6 +1,7 @@
 pub mod Ending
 pub mod Asked
 pub mod TraceChecks
+pub mod OnDisks
 pub mod Run
 pub mod Played
 pub mod Course

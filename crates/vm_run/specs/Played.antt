@@ -8,6 +8,7 @@ use Rattle.volume_files.specs.block_device.declared.disk_fault.DiskFault.{DiskFa
 use Rattle.volume_files.specs.flat_model.Counted.{Counted}
 use Rattle.volume_files.specs.flat_model.Flat.{Flat}
 use Rattle.volume_files.specs.flat_model.History.{Legal, replay}
+use Rattle.vm_core.specs.page_hash.declared.PageName.{PageName}
 use Rattle.vm_core.specs.page_store.Bays.{BaySeen, bay_at, bay_of, pairs_seen}
 use Rattle.volume_files.specs.vnode_files.Files.{FilesSeen}
 use Rattle.volume_files.specs.vnode_files.Vnode.{VnodeSeen}
@@ -25,6 +26,8 @@ use Rattle.vm_core.specs.vm_world.State.{KernelState, room_of, mode_of}
 use Rattle.vm_core.specs.vm_world.StateFits.{StateFits}
 use Rattle.volume_files.specs.vm_script.Sound.{IsSoundPlan}
 use Rattle.vm_kernel.specs.declared.starting.Room.{Room}
+use Rattle.vm_core.specs.vm_world.mark_laws.Pages.{disk_place}
+use Rattle.vm_run.specs.OnDisks.{HoldFronts}
 use Rattle.volume_files.specs.Attached.{bare_disks}
 use Rattle.volume_files.specs.Closed.{StoreFiles, infos_in_flat, flat_bytes}
 use Rattle.volume_files.specs.Handed.{HaveTold}
@@ -122,6 +125,8 @@ pub record KernelLeaves (F : Flat) (s : KernelState) (l : LeftSeen) : Type 0 whe
   pub infos : HaveTold (bare_disks l.disks) l.swap
       → infos_made l.files ≡ infos_in_flat (map (λ (v : VnodeSeen). v.info.name) l.files.files) (replay F l.history.entries).files
   pub stored : IfNone l.fault (HaveTold (bare_disks l.disks) l.swap → StoreFiles l.disks (infos_made l.files) (flat_bytes (replay F l.history.entries).files))
+  pub fronts : HaveTold (bare_disks l.disks) l.swap → HoldFronts F l.history.entries l.disks
+  pub places : HaveTold (bare_disks l.disks) l.swap → (name : PageName) (disk block : ℕ) → disk_place (replay F l.history.entries) name ≡ Some (disk, block) → 1 ≤ block
   pub fault : IfSome l.fault (IsClosingFault l)
   pub counts : (i : ℕ) (d : ℕ × DiskSeen) → slice_get l.disks i ≡ Some d → (count : ℕ) × (slice_index_or l.history.faults d.0 None ≡ Some count) × (count ≤ d.1.faults)
   pub disks : DisksCameBack (disks_of s.memory.world) l.disks

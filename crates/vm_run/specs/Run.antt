@@ -32,6 +32,7 @@ use Rattle.vm_run.specs.Asked.{Given, Asked, FailsToRead, WasAsked, run_request}
 use Rattle.volume_files.specs.Closed.{StoreFiles, SayTables, infos_in_flat, flat_bytes, modes_in}
 use Rattle.vm_run.specs.Ending.{status_of, fault_of, last_line_of}
 use Rattle.vm_run.specs.Ended.{End, HasLateCause, CountsReach}
+use Rattle.vm_run.specs.OnDisks.{HoldFronts}
 use Rattle.volume_files.specs.Handed.{AreUncounted, AreUntouched, AreWrittenAt, HaveTold, RackTells, HandsNone, HandsFront, HandsAll, HandsRefused, HasDiskCause}
 use Rattle.volume_files.specs.Handed.{HasOpeningCause, HasRefusalCause, StopsAttaching, volumes_of, sizes_of, member_count}
 use Rattle.volume_files.specs.Opened.{line_files_of, ComesTo, OpenedFile, opened_files, infos_of, names_of, numbered_plan, opening_flat}
@@ -169,7 +170,7 @@ pub record StopsInTrace (g : Given) (o : Outside) (e : End) : Type 0 where
 
 -- THE RUN BEGAN. Flat memory as the processes find it; where the disks tell, the history is legal for it, and a trace of both is a text that stands for them;
 -- whatever they tell, each of its entries has the signal or errno that flat memory calls due, or none where none is; and each of its device errors names a
--- fault that its disk counted.
+-- fault that its disk counted. And where the disks tell, each block of a file's page holds the page as it was after a front of the history.
 abbrev pub flat_opened : Asked → List OpenedFile → List DiskSeen → Flat
 flat_opened what files disks = opening_flat what.plan (sizes_of what.plan disks) files
 
@@ -191,6 +192,7 @@ pub record Begun (g : Given) (what : Asked) (files : List OpenedFile) (bytes : �
   pub refusals : RefusesAsDue (flat_opened what files e.disks) e.history.entries
   pub counted : Counted e.history.entries
   pub reached : CountsReach what.plan e.disks e.swap e.history.entries
+  pub fronts : DisksTell g what e → HoldFronts (flat_opened what files e.disks) e.history.entries (volumes_of what.plan e.disks)
 
 -- The disks have its files: those with which it began, by name, disk and mode; where the disks tell, their records are those of flat memory after the
 -- history, and so are the bytes that the disks have.

@@ -20,6 +20,7 @@ closes g c = record {
   counts = c.finish-finished.ensures.counts;
   closed = c.finish-finished.ensures.closed;
   fault = c.finish-finished.ensures.fault;
+  left = c.finish-finished.ensures.left;
   disks = c.finish-finished.ensures.disks;
   swap = swap-seen g.D.Disk.seen c.finish-finished.result.swap (bay_at c.play_plan-state.result.0.memory.world.store.bays 8) c.finish-finished.ensures.swap;
   files = c.finish-finished.ensures.files;
