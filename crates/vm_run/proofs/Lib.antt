@@ -4,7 +4,6 @@ pub mod KeptBytes
 pub mod OpeningFlat
 pub mod Courses
 pub mod Cases
-pub mod SectionFronts
 pub mod LastLines
 pub mod Unfailing
 pub mod Completes
