@@ -1,5 +1,5 @@
 -- What a run is asked to do, by its words and by the script or the number of a generated one. Public clauses cite this.
-use Rattle.std.specs.Prelude.{ℕ, Bool, true, false, List, ◌≡◌, ◌⊎◌, Option, Some, None, IfSome, option_map, Result, Ok, Err, if◌then◌else◌}
+use Rattle.std.specs.Prelude.{ℕ, true, false, List, ◌≡◌, ◌⊎◌, Option, Some, None, IfSome, option_map, Result, Ok, Err, if◌then◌else◌}
 use Rattle.volume_files.specs.block_device.Counts.{HasRisen}
 use Rattle.volume_files.specs.block_device.RackSeen.{RackSeen}
 use Rattle.volume_files.specs.block_device.StreamSeen.{SourceSeen}

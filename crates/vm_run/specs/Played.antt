@@ -1,5 +1,5 @@
 -- A kernel that is started, and what it leaves once its processes ran. Inside: no clause of `run` cites this.
-use Rattle.std.specs.Prelude.{ℕ, suc, [], ◌∷◌, ◌≡◌, ◌<◌, ◌≤◌, ◌^◌, ◌⊎◌, ◌+◌, List, Bool, IsTrue, false, length, map, sum_by, All, Some, None, IfNone, IfSome, Option, option_map, slice_get, slice_index_or}
+use Rattle.std.specs.Prelude.{ℕ, suc, [], ◌∷◌, ◌≡◌, ◌<◌, ◌≤◌, ◌^◌, ◌⊎◌, ◌+◌, List, Bool, IsTrue, length, map, sum_by, All, Some, None, IfNone, IfSome, Option, option_map, slice_get, slice_index_or}
 use Rattle.volume_files.specs.vm_types.declared.call.Entry.{Entry}
 use Rattle.volume_files.specs.vm_types.declared.call.Reply.TheVariants.{Io}
 use Rattle.volume_files.specs.vm_types.WellFormed.{IsWellFormed}
