@@ -51,7 +51,7 @@ landed-adds s t p call (Some reply) done ends is whole = inr (
 )
 
 pub land-adds : (s t : KernelState) (seat : ℕ) (call : Call) (f : FlightSeen) (done : Bool) → LandsFlight s t seat call f done → AddsWhere s t (seat + 1) call done
-land-adds s t seat call f done lands = landed-adds s t (seat + 1) call (answer_at_end lands.back (Some (seat + 1, call))) done lands.entry lands.tells lands.whole
+land-adds s t seat call f done lands = landed-adds s t (seat + 1) call (answer_at_end lands.comes.back (Some (seat + 1, call))) done lands.entry lands.tells lands.whole
 
 -- THE TURN: what the lane is then, and what the history has more.
 pub record TurnAdds (s t : KernelState) (lane new : LaneSeen) : Type 0 where

@@ -37,6 +37,10 @@ drives-fits [] s t lanes new opening seats drives own fits =
 drives-fits (n ∷ order) s t lanes new opening seats drives own fits =
     drives-fits order drives.0 t drives.1 new opening seats drives.3 (step-own n s drives.0 lanes drives.1 drives.2 own) (step-fits n s drives.0 lanes drives.1 opening seats drives.2 own fits)
 
+pub drives-own : (order : List ℕ) (s t : KernelState) (lanes new : List LaneSeen) → Drives order s t lanes new → HaveOwnSeats lanes → HaveOwnSeats new
+drives-own [] s t lanes new drives own = subst HaveOwnSeats (sym drives.1) own
+drives-own (n ∷ order) s t lanes new drives own = drives-own order drives.0 t drives.1 new drives.3 (step-own n s drives.0 lanes drives.1 drives.2 own)
+
 -- THE HISTORY
 pub drop-at : (xs : List Call) (n : ℕ) (x : Call) → slice_get xs n ≡ Some x → drop n xs ≡ x ∷ drop (suc n) xs
 drop-at [] n x at = absurd (let lt = slice_get_within [] n x at in omega (arith, lt))
@@ -146,3 +150,14 @@ drives-made [] s t lanes new drives own k lane after at now =
 drives-made (n ∷ order) s t lanes new drives own k lane after at now =
     let first = step-made n s drives.0 lanes drives.1 drives.2 own k lane at in
     then-made s drives.0 t lane first.0 after first.2 (drives-made order drives.0 t drives.1 new drives.3 (step-own n s drives.0 lanes drives.1 drives.2 own) k first.0 after first.1 now)
+
+-- ONE TURN MORE behind an order
+pub drives-more : (order : List ℕ) (n : ℕ) (s u t : KernelState) (lanes mid new : List LaneSeen) → Drives order s u lanes mid → StepsLane n u t mid new → Drives (order ++ n ∷ []) s t lanes new
+drives-more [] n s u t lanes mid new drives step =
+    (t, new, subst (λ (ls : List LaneSeen). StepsLane n s t ls new) drives.1 (subst (λ (x : KernelState). StepsLane n x t mid new) drives.0 step), (refl, refl))
+drives-more (k ∷ order) n s u t lanes mid new drives step = (drives.0, drives.1, drives.2, drives-more order n drives.0 u t drives.1 mid new drives.3 step)
+
+pub take-next : (order : List ℕ) (i n : ℕ) → slice_get order i ≡ Some n → take (suc i) order ≡ take i order ++ n ∷ []
+take-next [] i n at = absurd (let lt = slice_get_within [] i n at in omega (arith, lt))
+take-next (k ∷ order) zero n at = ap (λ (x : ℕ). x ∷ []) (let same : k ≡ n = cc in same)
+take-next (k ∷ order) (suc i) n at = ap (λ (xs : List ℕ). k ∷ xs) (take-next order i n at)

@@ -1,10 +1,9 @@
 -- A LANE THAT IS ALONE comes to its end: each transfer that a call needs takes two turns, and leaves one less to come.
 use Rattle.std.proofs.Common.{◌≡◌, ◌≢◌, ℕ, zero, suc, ◌+◌, ◌*◌, ◌-◌, ◌<◌, ◌≤◌, ◌==◌, Bool, true, false, List, [], ◌∷◌, ◌++◌, length, Option, Some, None, refl, sym, ap, ◌∙◌, ◌⊎◌, inl, inr, subst, arith}
-use Rattle.std.specs.Prelude.{IsSomeAnd, drop, sum_by}
+use Rattle.std.specs.Prelude.{IsSomeAnd, is_some}
 use Rattle.std.proofs.lemmas.Bool.{cases_eq}
-use Rattle.std.proofs.lemmas.List.Sums.{sum_by-cons}
 use Rattle.std.proofs.lemmas.Option.{slice_get_within, slice_get-get_or}
-use Rattle.fault_entry.specs.page_store.Flight.{FlightSeen}
+use Rattle.fault_entry.specs.page_store.Flight.{FlightSeen, Progress}
 use Rattle.fault_entry.specs.page_store.Seen.{IsSoundStore}
 use Rattle.fault_entry.specs.page_store.declared.plan.Plan.{Plan}
 use Rattle.fault_entry.specs.seg_vn.declared.attempt.Attempt.{Attempt}
@@ -12,7 +11,7 @@ use Rattle.fault_entry.specs.seg_vn.declared.attempt.Attempt.TheVariants.{Done, 
 use Rattle.fault_entry.specs.flat_model.Flat.{Flat}
 use Rattle.fault_entry.specs.flat_model.OpenLaws.{last_entry, IsOpenPart}
 use Rattle.fault_entry.specs.vm_types.declared.call.Call.{Call}
-use Rattle.fault_entry.specs.vm_types.declared.call.Call.TheVariants.{Load, Store, Map, Unmap, Protect, Sync, Read, Write, Truncate, Fork, Exit}
+use Rattle.fault_entry.specs.vm_types.declared.call.Call.TheVariants.{Exit}
 use Rattle.fault_entry.specs.vm_types.declared.call.Entry.{Entry}
 use Rattle.fault_entry.specs.vm_world.Opening.{no_seats}
 use Rattle.fault_entry.specs.vm_world.State.{Fixed, KernelState, Seats, with_sent}
@@ -21,18 +20,16 @@ use Rattle.fault_entry.specs.vm_world.Wants.{seat_in}
 use Rattle.fault_entry.proofs.vm_world.StateSteps.{same-seats}
 use Rattle.fault_entry.proofs.vm_world.Told.{event_law}
 use Rattle.vm_core.specs.Calls.{AnswersCall, IsNeeded}
-use Rattle.lane_driver.specs.Alone.{IsAlone, IsAllDone, turns_enough, turns_for}
+use Rattle.vm_core.specs.Flights.{error_at_end}
+use Rattle.lane_driver.specs.Alone.{IsAlone, IsAllDone, turns_enough}
 use Rattle.lane_driver.specs.Drives.{Drives, StepsLane}
 use Rattle.lane_driver.specs.Lanes.{LaneSeen, HaveOwnSeats, calls_left, lane_after, next_call, sent_by, with_lanes}
 use Rattle.lane_driver.specs.LaneTurns.{AfterTry, LandsFlight, SendsFlight, TakesLaneTurn, TriesNext, TurnsBy}
 use Rattle.lane_driver.proofs.Adds.{turn-adds}
-use Rattle.lane_driver.proofs.Counts.{at-most-below}
-use Rattle.lane_driver.proofs.Driven.{drop-at, step-fits}
-use Rattle.lane_driver.proofs.Falls.{IsDirtyFrame, dirty-below}
+use Rattle.lane_driver.proofs.Driven.{step-fits}
 use Rattle.lane_driver.proofs.MayGo.{last-one, last-other, no-open}
 use Rattle.lane_driver.proofs.OwnSeats.{no-lane, same-lane}
-use Rattle.lane_driver.proofs.Rounds.{Comes, need-some, round-falls, weight}
-use Rattle.lane_driver.proofs.Securing.{one-firm, one-tail}
+use Rattle.lane_driver.proofs.Rounds.{Comes, need-some, new-comes, round-falls}
 
 -- ONE LANE
 one-own : (lane : LaneSeen) → HaveOwnSeats (lane ∷ [])
@@ -42,7 +39,7 @@ one-step : (n : ℕ) (s t : KernelState) (lane : LaneSeen) (new : List LaneSeen)
 one-step zero s t lane new step = (step.after, step.set, subst (λ (l : LaneSeen). TakesLaneTurn s t l step.after) (sym (same-lane lane step.lane step.there)) step.turn)
 one-step (suc n) s t lane new step = absurd (no-lane n step.lane step.there)
 
-none-sent : (seat : ℕ) (flight : Option FlightSeen) (call : Option Call) → flight ≡ None → sent_by seat flight call ≡ None
+pub none-sent : (seat : ℕ) (flight : Option FlightSeen) (call : Option Call) → flight ≡ None → sent_by seat flight call ≡ None
 none-sent seat flight None is = refl
 none-sent seat flight (Some call) is = ap (λ (f : Option FlightSeen). sent_by seat f (Some call)) is
 
@@ -73,44 +70,27 @@ stays-alone frames s t lane new stays turn = record {
   count = ap (λ (x : Fixed). x.frames) turn.event.fixed ∙ stays.count;
 }
 
+-- the calls behind the one at hand
+abbrev behind : LaneSeen → ℕ
+behind lane = length lane.calls - suc lane.done
+
+left-more : (lane : LaneSeen) (call : Call) → next_call lane ≡ Some call → calls_left lane ≡ suc (behind lane)
+left-more lane call at = let lt = slice_get_within lane.calls lane.done call at in omega (arith, lt)
+
+left-sum : (frames : ℕ) (lane : LaneSeen) (call : Call) → next_call lane ≡ Some call → turns_enough frames lane ≡ (2 * frames + 8) + (2 * frames + 8) * behind lane
+left-sum frames lane call at = ap (λ (n : ℕ). (2 * frames + 8) * n) (left-more lane call at) ∙ one-more (2 * frames + 8) (behind lane)
+  where
+    one-more : (k n : ℕ) → k * suc n ≡ k + k * n
+    one-more k n = omega arith
+
 -- WHAT IS ENOUGH for the call at hand, by what is still to come of it, and for those behind it
 abbrev Bound : ℕ → KernelState → LaneSeen → ℕ → Type 0
-Bound frames s lane turns = (call : Call) → next_call lane ≡ Some call
-    → (most : ℕ) × Comes s.memory (lane.seat + 1) call most × (2 * most + 1 + sum_by (turns_for frames) (drop (suc lane.done) lane.calls) ≤ turns)
-
-weight-low : (frames : ℕ) (call : Call) → 2 * weight call frames 1 1 + 2 ≤ turns_for frames call
-weight-low frames (Write file offset line rest) = omega arith
-weight-low frames (Load a n) = omega arith
-weight-low frames (Store a n v) = omega arith
-weight-low frames (Read file offset len) = omega arith
-weight-low frames (Truncate file end) = omega arith
-weight-low frames (Map place len prot kind object offset) = omega arith
-weight-low frames (Unmap a len) = omega arith
-weight-low frames (Protect a len prot) = omega arith
-weight-low frames (Sync a len) = omega arith
-weight-low frames (Fork child) = omega arith
-weight-low frames Exit = omega arith
-
-left-sum : (frames : ℕ) (lane : LaneSeen) (call : Call) → next_call lane ≡ Some call → turns_enough frames lane ≡ turns_for frames call + sum_by (turns_for frames) (drop (suc lane.done) lane.calls)
-left-sum frames lane call at = ap (sum_by (turns_for frames)) (drop-at lane.calls lane.done call at) ∙ sum_by-cons (turns_for frames) call (drop (suc lane.done) lane.calls)
-
--- a call that begins
-new-comes : (frames : ℕ) (s : KernelState) (p : ℕ) (call : Call) → length s.memory.world.store.frames ≡ frames → Comes s.memory p call (weight call frames 1 1)
-new-comes frames s p call count = record {
-  dirty = frames;
-  firm = 1;
-  tail = 1;
-  are_dirty = at-most-below frames (IsDirtyFrame s.memory.world) (λ k d. let lt = dirty-below s.memory.world k d in omega (arith, lt, count));
-  are_firm = one-firm s.memory p call;
-  are_tail = one-tail s.memory call;
-  low = omega arith;
-}
+Bound frames s lane turns = (call : Call) → next_call lane ≡ Some call → (most : ℕ) × Comes s.memory (lane.seat + 1) call most × (2 * most + 1 + (2 * frames + 8) * behind lane ≤ turns)
 
 fresh-bound : (frames : ℕ) (s : KernelState) (lane : LaneSeen) (turns : ℕ) → length s.memory.world.store.frames ≡ frames → turns_enough frames lane ≤ suc turns → Bound frames s lane turns
 fresh-bound frames s lane turns count enough call at =
-    let low = weight-low frames call in
     let sum = left-sum frames lane call at in
-    (weight call frames 1 1, new-comes frames s (lane.seat + 1) call count, omega (arith, low, sum, enough))
+    (frames + 2, new-comes frames s.memory (lane.seat + 1) call count, omega (arith, sum, enough))
 
 -- A TRY, where nobody has anything outside: the call is done, or it needs a transfer; nobody is waited for.
 record Needs (opening : Flat) (s t : KernelState) (seat : ℕ) (call : Call) (flight : Option FlightSeen) : Type 0 where
@@ -158,7 +138,7 @@ record Pending (frames : ℕ) (u : KernelState) (lane : LaneSeen) (turns : ℕ) 
   needs : Needs opening s u lane.seat call lane.flight
   most : ℕ
   comes : Comes s.memory (lane.seat + 1) call most
-  enough : 2 * most + sum_by (turns_for frames) (drop (suc lane.done) lane.calls) ≤ turns
+  enough : 2 * most + (2 * frames + 8) * behind lane ≤ turns
   some : 1 ≤ most
 
 -- THE FIRST TURN
@@ -177,7 +157,7 @@ first-turn frames s u lane after turns stays idle bound turn = by_call (next_cal
     by_try call done flight at is (inl answered) =
         let b = bound call at in
         let low = b.2 in
-        let sum : turns_enough frames after ≡ sum_by (turns_for frames) (drop (suc lane.done) lane.calls) = ap (turns_enough frames) (is ∙ ap (λ (x : Bool). lane_after lane x flight) answered.0) in
+        let sum : turns_enough frames after ≡ (2 * frames + 8) * behind lane = ap (turns_enough frames) (is ∙ ap (λ (x : Bool). lane_after lane x flight) answered.0) in
         inl (ap (λ (l : LaneSeen). l.flight) is ∙ answered.1, fresh-bound frames u after turns stayed.count (omega (arith, low, sum)))
     by_try call done flight at is (inr need) =
         let b = bound call at in
@@ -212,7 +192,10 @@ second-turn frames u v lane after turns stays p turn =
     let n = p.needs in
     let land = landed u v lane after n.f p.call n.is p.next turn in (
       ap (λ (l : LaneSeen). l.flight) land.2,
-      by_done land.0 land.2 (round-falls p.opening p.s n.mid lane.seat p.call n.plan n.fits p.sound n.needs u v n.f land.0 n.sends land.1 p.most p.comes),
+      by_done land.0 land.2 (elim (round-falls p.opening p.s n.mid lane.seat p.call n.plan n.fits p.sound n.needs u v n.f n.sends land.1.comes p.most p.comes) [
+        | inl lost ↦ inl (land.1.tells ∙ ap (λ (o : Progress). is_some (error_at_end land.1.comes.back o)) lost)
+        | inr less ↦ inr less
+      ]),
     )
   where
     stayed : StaysAlone frames v after
@@ -222,7 +205,7 @@ second-turn frames u v lane after turns stays p turn =
     answered is =
         let enough = p.enough in
         let some = p.some in
-        let sum : turns_enough frames after ≡ sum_by (turns_for frames) (drop (suc lane.done) lane.calls) = ap (turns_enough frames) is in
+        let sum : turns_enough frames after ≡ (2 * frames + 8) * behind lane = ap (turns_enough frames) is in
         fresh-bound frames v after turns stayed.count (omega (arith, enough, some, sum))
 
     by_done : (done : Bool) → after ≡ lane_after lane done None → (done ≡ true) ⊎ ((less : ℕ) × Comes v.memory (lane.seat + 1) p.call less × (suc less ≤ p.most)) → Bound frames v after turns
@@ -234,11 +217,11 @@ second-turn frames u v lane after turns stays p turn =
         let fewer = less.2 in (
           less.0,
           subst (λ (l : LaneSeen). Comes v.memory (l.seat + 1) call less.0) (sym is) (subst (λ (c : Call). Comes v.memory (lane.seat + 1) c less.0) (sym same) less.1),
-          subst (λ (l : LaneSeen). 2 * less.0 + 1 + sum_by (turns_for frames) (drop (suc l.done) l.calls) ≤ turns) (sym is) (omega (arith, enough, fewer)),
+          subst (λ (l : LaneSeen). 2 * less.0 + 1 + (2 * frames + 8) * behind l ≤ turns) (sym is) (omega (arith, enough, fewer)),
         )
 
 -- no call is left where none is next
-left-none : (lane : LaneSeen) → next_call lane ≡ None → calls_left lane ≡ 0
+pub left-none : (lane : LaneSeen) → next_call lane ≡ None → calls_left lane ≡ 0
 left-none lane none = elim (leb_or lane.done (length lane.calls)) [
   | inl past ↦ omega (arith, past)
   | inr within ↦ absurd (let z : ◌≡◌ {A = Option Call} None (Some _) = sym none ∙ slice_get-get_or lane.calls lane.done Exit within in cc)
@@ -283,7 +266,7 @@ ends-out frames [] s t lane new f stays out enough drives = (lane, drives.1, by_
   where
     by_call : (c : Option Call) → next_call lane ≡ c → calls_left lane ≡ 0
     by_call None at = left-none lane at
-    by_call (Some call) at = absurd (let sum = left-sum frames lane call at in let low = weight-low frames call in omega (arith, enough, sum, low))
+    by_call (Some call) at = absurd (let sum = left-sum frames lane call at in omega (arith, enough, sum))
 ends-out frames (n ∷ order) s t lane new f stays out enough drives =
     let one = one-step n s drives.0 lane drives.1 drives.2 in
     by_call (next_call lane) refl one.0 one.2 (subst (λ (ls : List LaneSeen). Drives order drives.0 t ls new) one.1 drives.3)
@@ -298,7 +281,7 @@ ends-out frames (n ∷ order) s t lane new f stays out enough drives =
         by_done : (done : Bool) → after ≡ lane_after lane done None → length drives.0.memory.world.store.frames ≡ frames → Bound frames drives.0 after (length order)
         by_done true is count =
             let sum = left-sum frames lane call at in
-            let now : turns_enough frames after ≡ sum_by (turns_for frames) (drop (suc lane.done) lane.calls) = ap (turns_enough frames) is in
+            let now : turns_enough frames after ≡ (2 * frames + 8) * behind lane = ap (turns_enough frames) is in
             fresh-bound frames drives.0 after (length order) count (omega (arith, enough, sum, now))
         by_done false is count =
             let now : turns_enough frames after ≡ turns_enough frames lane = ap (turns_enough frames) is in

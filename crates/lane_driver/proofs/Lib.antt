@@ -8,6 +8,9 @@ pub mod Securing
 pub mod Rounds
 pub mod Ends
 pub mod TurnLaws
+pub mod Turning
+pub mod Orders
+pub mod FirstCalls
 pub use Rattle.fault_entry.proofs.vm_world as vm_world
 pub use Rattle.fault_entry.proofs.page_store as page_store
 pub use Rattle.fault_entry.proofs.seg_ops as seg_ops

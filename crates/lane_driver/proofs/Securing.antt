@@ -1,7 +1,7 @@
 -- THE PAGES THAT A CALL MAY WANT HOME, by what stays while the call lasts: those that it wants whenever it needs a transfer, and a write's old last page, which it
--- wants only where that isn't blank or a frame holds it.
+-- wants only where that isn't blank or a frame holds it, so that it keeps it home once it isn't blank.
 use Rattle.std.proofs.Common.{◌≤◌, ◌%◌, ◌≡◌, ◌≢◌, ℕ, ◌+◌, ◌-◌, ◌<◌, ◌==◌, List, [], ◌∷◌, length, map, Option, Some, None, refl, sym, ap, ◌∙◌, ◌⊎◌, inl, inr, subst, arith}
-use Rattle.std.specs.Prelude.{min, slice_index_or}
+use Rattle.std.specs.Prelude.{IsFalse, min, slice_index_or}
 use Rattle.std.proofs.Math.ListN.{get_or-map}
 use Rattle.fault_entry.specs.core_arena.Bytes.{bytes_at}
 use Rattle.fault_entry.specs.page_hash.Names.{find}
@@ -10,6 +10,7 @@ use Rattle.fault_entry.specs.page_lock.Rows.{row_at}
 use Rattle.fault_entry.specs.page_store.Seen.{StoreSeen, residence, residence_in, residence_of}
 use Rattle.fault_entry.specs.page_store.declared.residence.Residence.TheVariants.{Absent, Home, Moving}
 use Rattle.fault_entry.specs.flat_model.Words.{page}
+use Rattle.fault_entry.specs.vm_types.Parts.{file_of_call}
 use Rattle.fault_entry.specs.vm_types.declared.call.Call.{Call}
 use Rattle.fault_entry.specs.vm_types.declared.call.Call.TheVariants.{Load, Store, Map, Unmap, Protect, Sync, Read, Write, Truncate, Fork, Exit}
 use Rattle.fault_entry.specs.vnode_files.Files.{vnode_at}
@@ -19,7 +20,7 @@ use Rattle.fault_entry.specs.vm_world.FlatMemory.{Memory}
 use Rattle.fault_entry.specs.vm_world.Segments.{Spaces, Spot, shown_name, spot_at}
 use Rattle.fault_entry.specs.vm_world.SeatLaws.{IsAtRest}
 use Rattle.fault_entry.specs.vm_world.Wants.{AccessWants, IsGapPage, MakesSlotFor, PartWants, ShowsPage, WantsFrame, WantsHome, accessed_page}
-use Rattle.fault_entry.specs.vm_world.World.{file_name}
+use Rattle.fault_entry.specs.vm_world.World.{file_name, is_unpushed}
 use Rattle.lane_driver.proofs.Counts.{Among, AtMost}
 
 -- the page that an address of a process shows
@@ -46,14 +47,19 @@ Tail m call name = ⊥
 abbrev pub IsHome : Memory → PageName → Type 0
 IsHome m name = (frame : ℕ) × (residence m.world.store name ≡ Home frame)
 
--- WHAT IS STILL TO COME of a call: pages that aren't home
+-- WHAT IS STILL TO COME of a call: pages that aren't home, or blank
 pub record MissesFirm (m : Memory) (p : ℕ) (call : Call) (name : PageName) : Type 0 where
   pub wanted : Firm m p call name
   pub away : ¬ IsHome m name
 
+-- a page that is home and isn't blank
+pub record IsKept (m : Memory) (name : PageName) : Type 0 where
+  pub home : IsHome m name
+  pub pushed : IsFalse (is_unpushed m.world.files m.world.anon name)
+
 pub record MissesTail (m : Memory) (call : Call) (name : PageName) : Type 0 where
   pub wanted : Tail m call name
-  pub away : ¬ IsHome m name
+  pub away : ¬ IsKept m name
 
 -- the call wants a page home, or a frame for a slot
 abbrev pub WantsSome : Memory → ℕ → Call → Type 0
@@ -102,6 +108,21 @@ firm-wanted m p (Sync a len) name rest w c = absurd c
 firm-wanted m p (Fork child) name rest w c = absurd c
 firm-wanted m p Exit name rest w c = absurd c
 
+-- .. and so is a write's old last one that isn't blank
+pub tail-wanted : (m : Memory) (p : ℕ) (call : Call) (name : PageName) → WantsSome m p call → Tail m call name → IsFalse (is_unpushed m.world.files m.world.anon name) → WantsHome m p call name
+tail-wanted m p (Write file offset line more) name (inl w) c pushed = (w.1.0, inr (record { gap = c; held = inl pushed }))
+tail-wanted m p (Write file offset line more) name (inr w) c pushed = absurd (let z : ◌≡◌ {A = Option ℕ} None (Some w.0) = w.2 in cc)
+tail-wanted m p (Load a n) name w c pushed = absurd c
+tail-wanted m p (Store a n v) name w c pushed = absurd c
+tail-wanted m p (Read file offset len) name w c pushed = absurd c
+tail-wanted m p (Truncate file end) name w c pushed = absurd c
+tail-wanted m p (Map place len prot kind object offset) name w c pushed = absurd c
+tail-wanted m p (Unmap a len) name w c pushed = absurd c
+tail-wanted m p (Protect a len prot) name w c pushed = absurd c
+tail-wanted m p (Sync a len) name w c pushed = absurd c
+tail-wanted m p (Fork child) name w c pushed = absurd c
+tail-wanted m p Exit name w c pushed = absurd c
+
 -- A PAGE THAT IS WANTED is firm, or a write's old last one
 pub wanted-one : (m : Memory) (p : ℕ) (call : Call) (name : PageName) → IsAtRest m.world.store → WantsHome m p call name → Firm m p call name ⊎ Tail m call name
 wanted-one m p (Load a n) name rest w = inl (w.0, w.1.here, w.2)
@@ -117,6 +138,24 @@ wanted-one m p (Protect a len prot) name rest w = absurd w
 wanted-one m p (Sync a len) name rest w = absurd w
 wanted-one m p (Fork child) name rest w = absurd w
 wanted-one m p Exit name rest w = absurd w
+
+-- a write's old last page is that of the call's file, which is one where the call wants something
+abbrev pub TailFile : Memory → Call → PageName → Type 0
+TailFile m call name = (file_of_call call ≡ Some name.object) × (name.object < length m.world.files.files)
+
+pub tail-file : (m : Memory) (p : ℕ) (call : Call) (name : PageName) → WantsSome m p call → Tail m call name → TailFile m call name
+tail-file m p (Write file offset line more) name (inl w) c = subst (TailFile m (Write file offset line more)) (sym c.last) (refl, w.1.0.there)
+tail-file m p (Write file offset line more) name (inr w) c = absurd (let z : ◌≡◌ {A = Option ℕ} None (Some w.0) = w.2 in cc)
+tail-file m p (Load a n) name w c = absurd c
+tail-file m p (Store a n v) name w c = absurd c
+tail-file m p (Read file offset len) name w c = absurd c
+tail-file m p (Truncate file end) name w c = absurd c
+tail-file m p (Map place len prot kind object offset) name w c = absurd c
+tail-file m p (Unmap a len) name w c = absurd c
+tail-file m p (Protect a len prot) name w c = absurd c
+tail-file m p (Sync a len) name w c = absurd c
+tail-file m p (Fork child) name w c = absurd c
+tail-file m p Exit name w c = absurd c
 
 -- WHAT THE CANDIDATES HANG ON: the spaces, the maps, and the files' records
 pub record SameGround (m n : Memory) : Type 0 where
@@ -244,10 +283,6 @@ is-tail m (Protect a len prot) name c = absurd c
 is-tail m (Sync a len) name c = absurd c
 is-tail m (Fork child) name c = absurd c
 is-tail m Exit name c = absurd c
-
--- .. so that two are one
-pub same-tail : (m : Memory) (call : Call) (one two : PageName) → Tail m call one → Tail m call two → one ≡ two
-same-tail m call one two c d = sym (is-tail m call one c) ∙ is-tail m call two d
 
 pub one-tail : (m : Memory) (call : Call) → AtMost 1 (MissesTail m call)
 one-tail m call = record { list = tail_page m call ∷ []; few = omega arith; all = λ name missing. inl (is-tail m call name missing.wanted) }

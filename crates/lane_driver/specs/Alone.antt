@@ -1,8 +1,6 @@
 -- A lane that is driven alone comes to its end. Public clauses cite this.
-use Rattle.std.specs.Prelude.{◌≡◌, ◌≤◌, ◌+◌, ◌*◌, ℕ, List, [], ◌∷◌, IsSomeAnd, drop, sum_by}
+use Rattle.std.specs.Prelude.{◌≡◌, ◌≤◌, ◌+◌, ◌*◌, ℕ, List, [], ◌∷◌, IsSomeAnd}
 use Rattle.fault_entry.specs.flat_model.Flat.{Flat}
-use Rattle.fault_entry.specs.vm_types.declared.call.Call.{Call}
-use Rattle.fault_entry.specs.vm_types.declared.call.Call.TheVariants.{Write}
 use Rattle.fault_entry.specs.flat_model.OpenLaws.{last_entry, IsOpenPart}
 use Rattle.fault_entry.specs.vm_world.Opening.{no_seats}
 use Rattle.fault_entry.specs.vm_world.State.{KernelState}
@@ -15,15 +13,10 @@ pub record IsAlone (s : KernelState) (lane : LaneSeen) : Type 0 where
   pub fits : StateFits opening s (with_lanes no_seats (lane ∷ []))
   pub whole : (p f : ℕ) → ¬ IsSomeAnd (last_entry p s.history) (IsOpenPart f)
 
--- How many turns are enough for a call over so many frames: two for each page that is modified and each page that the call wants, and some more. A part of a
--- write that makes its file longer wants the old last page as long as that isn't blank or a frame holds it, so that it may want it once more behind each push.
-abbrev pub turns_for : ℕ → Call → ℕ
-turns_for frames (Write file offset line rest) = 4 * frames + 8
-turns_for frames call = 2 * frames + 8
-
--- .. and for the calls that a lane has left.
+-- How many turns are enough for the calls that a lane has left, over so many frames: for each call two for each page that is modified and each page that it
+-- wants, and some more.
 abbrev pub turns_enough : ℕ → LaneSeen → ℕ
-turns_enough frames lane = sum_by (turns_for frames) (drop lane.done lane.calls)
+turns_enough frames lane = (2 * frames + 8) * calls_left lane
 
 -- The only lane has no call left.
 abbrev pub IsAllDone : List LaneSeen → Type 0

@@ -1,5 +1,5 @@
 -- What a given order of turns does to a state and its lanes. Public clauses cite this.
-use Rattle.std.specs.Prelude.{◌≡◌, ◌≤◌, ◌++◌, ◌-◌, ℕ, List, [], ◌∷◌, Some, map, take, drop, slice_get, slice_set}
+use Rattle.std.specs.Prelude.{◌≡◌, ◌<◌, ◌≤◌, ◌++◌, ◌-◌, ℕ, List, [], ◌∷◌, Some, length, map, take, drop, slice_get, slice_set}
 use Rattle.fault_entry.specs.vm_types.declared.call.Entry.{Entry}
 use Rattle.fault_entry.specs.flat_model.Told.{entries_of}
 use Rattle.fault_entry.specs.vm_world.State.{KernelState}
@@ -18,6 +18,10 @@ pub record StepsLane (number : ℕ) (s t : KernelState) (lanes new : List LaneSe
 abbrev pub Drives : List ℕ → KernelState → KernelState → List LaneSeen → List LaneSeen → Type 0
 Drives [] s t lanes new = (t ≡ s) × (new ≡ lanes)
 Drives (number ∷ order) s t lanes new = (mid : KernelState) × (between : List LaneSeen) × StepsLane number s mid lanes between × Drives order mid t between new
+
+-- A front of the order was done, but not all of it.
+abbrev pub DrivesFront : List ℕ → KernelState → KernelState → List LaneSeen → List LaneSeen → Type 0
+DrivesFront order s t lanes new = (turns : ℕ) × (turns < length order) × Drives (take turns order) s t lanes new
 
 -- The history has grown, for the lane's process, by exactly the calls from its old number of calls that are done to its new one, in order; its calls stay.
 pub record HasMadeCalls (s t : KernelState) (lane new : LaneSeen) : Type 0 where

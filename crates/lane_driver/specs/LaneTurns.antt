@@ -39,16 +39,25 @@ pub record TriesNext (s t : KernelState) (seat : ℕ) (call : Call) (done : Bool
   pub event : IsEvent seat s None mid None
   pub goes : AfterTry mid t seat call attempt done flight
 
--- A lane with a transfer makes and ends it. Where it failed, its error is the reply to the lane's next call.
-pub record LandsFlight (s t : KernelState) (seat : ℕ) (call : Call) (f : FlightSeen) (done : Bool) : Type 0 where
+-- A transfer is made, and ends: what comes back, the store where that leaves it, and that nothing else of memory changes.
+pub record ReturnsFlight (s t : KernelState) (f : FlightSeen) : Type 0 where
   pub back : FlightSeen
   pub performed : IsPerformed (note_of f) back
-  pub entry : EndsWith s t (Some (seat + 1, call)) (answer_at_end back (Some (seat + 1, call)))
   pub ends : EndsTransfer s.memory.world.store t.memory.world.store back
   pub world : t.memory.world ≡ record s.memory.world { store = t.memory.world.store }
   pub spaces : t.memory.spaces ≡ s.memory.spaces
-  pub tells : done ≡ is_some (answer_at_end back (Some (seat + 1, call)))
-  pub whole : (reply : Reply) → answer_at_end back (Some (seat + 1, call)) ≡ Some reply → IsTrue (ends_call call reply)
+
+-- A lane with a transfer makes and ends it. Where it failed, its error is the reply to the lane's next call.
+pub record LandsFlight (s t : KernelState) (seat : ℕ) (call : Call) (f : FlightSeen) (done : Bool) : Type 0 where
+  pub comes : ReturnsFlight s t f
+  pub entry : EndsWith s t (Some (seat + 1, call)) (answer_at_end comes.back (Some (seat + 1, call)))
+  pub tells : done ≡ is_some (answer_at_end comes.back (Some (seat + 1, call)))
+  pub whole : (reply : Reply) → answer_at_end comes.back (Some (seat + 1, call)) ≡ Some reply → IsTrue (ends_call call reply)
+
+-- The turn for a call: with this transfer out, and with none.
+abbrev pub TurnsCall : KernelState → KernelState → ℕ → Call → Option FlightSeen → Bool → Option FlightSeen → Type 0
+TurnsCall s t seat call (Some f) done out = LandsFlight s t seat call f done × (out ≡ None)
+TurnsCall s t seat call None done out = TriesNext s t seat call done out
 
 -- By what the lane has out, and its next call: it makes and ends its transfer; or it tries the call; or, with no call left, it does nothing.
 abbrev pub TurnsBy : Option FlightSeen → Option Call → KernelState → KernelState → LaneSeen → LaneSeen → Type 0

@@ -1,8 +1,14 @@
 -- Lanes: who makes which calls, and what each has outside the state. Public clauses cite this.
-use Rattle.std.specs.Prelude.{◌≡◌, ◌+◌, ◌-◌, ℕ, suc, Bool, List, [], ◌∷◌, Option, Some, None, length, slice_get, option_map, if◌then◌else◌}
+use Rattle.std.specs.Prelude.{◌≡◌, ◌≢◌, ◌<◌, ◌≤◌, ◌+◌, ◌-◌, ℕ, suc, Bool, List, [], ◌∷◌, Option, Some, None, length, IfSome, IsSomeAnd, slice_get, option_map, if◌then◌else◌}
+use Rattle.fault_entry.specs.vm_types.Pages.{line_rest}
+use Rattle.fault_entry.specs.vm_types.WellFormed.{IsWellFormed}
 use Rattle.fault_entry.specs.vm_types.declared.call.Call.{Call}
-use Rattle.fault_entry.specs.page_store.Flight.{FlightSeen, note_of}
-use Rattle.fault_entry.specs.vm_world.State.{Sent, Seats, with_sent}
+use Rattle.fault_entry.specs.vm_types.declared.call.Call.TheVariants.{Read, Write, Fork, Exit}
+use Rattle.fault_entry.specs.flat_model.OpenLaws.{last_entry, IsOpenPart}
+use Rattle.fault_entry.specs.flat_model.Told.{entries_of}
+use Rattle.fault_entry.specs.page_store.Flight.{FlightSeen, fresh, note_of}
+use Rattle.fault_entry.specs.vm_world.SeatLaws.{IsKnownAlive}
+use Rattle.fault_entry.specs.vm_world.State.{KernelState, Sent, Seats, room_of, with_sent}
 
 -- A lane: its seat, whose process has the next number; its calls; how many of these are done; and its transfer, where one is out.
 pub record LaneSeen : Type 0 where
@@ -26,6 +32,23 @@ calls_left lane = length lane.calls - lane.done
 abbrev pub lane_after : LaneSeen → Bool → Option FlightSeen → LaneSeen
 lane_after lane done flight = record lane { done = if done then suc lane.done else lane.done; flight = flight }
 
+-- A part of a read or a write lies inside one line, and nothing of its call follows it.
+abbrev pub LiesInOneLine : Call → Type 0
+LiesInOneLine (Read file offset len) = len ≤ line_rest offset
+LiesInOneLine (Write file offset line rest) = rest ≡ 0
+LiesInOneLine call = Unit {0}
+
+-- A call that a lane may have.
+pub record IsLaneCall (call : Call) : Type 0 where
+  pub formed : IsWellFormed call
+  pub line : LiesInOneLine call
+  pub plain : (child : ℕ) → call ≢ Fork child
+
+-- The calls of a lane: each is such a one, and an Exit is the last.
+pub record AreLaneCalls (calls : List Call) : Type 0 where
+  pub each : (k : ℕ) (call : Call) → slice_get calls k ≡ Some call → IsLaneCall call
+  pub last : (k : ℕ) → slice_get calls k ≡ Some Exit → suc k ≡ length calls
+
 -- What a seat has outside the state with a transfer for a call of its process; and what a lane has: its transfer, for its next call.
 abbrev pub sent_for : ℕ → Call → FlightSeen → Sent
 sent_for seat call f = record { note = note_of f; of = Some (seat + 1, call) }
@@ -45,3 +68,17 @@ with_lanes seats (lane ∷ lanes) = with_sent (with_lanes seats lanes) lane.seat
 -- No two lanes have one seat.
 abbrev pub HaveOwnSeats : List LaneSeen → Type 0
 HaveOwnSeats lanes = (i j : ℕ) (one two : LaneSeen) → slice_get lanes i ≡ Some one → slice_get lanes j ≡ Some two → one.seat ≡ two.seat → i ≡ j
+
+-- The lane's process has no read or write between two parts, and may make as many entries as the lane has calls left; and as long as one is left it is alive:
+-- it has no parent or was born, and made no Exit.
+pub record MayMakeCalls (s : KernelState) (lane : LaneSeen) : Type 0 where
+  pub whole : (f : ℕ) → ¬ IsSomeAnd (last_entry (lane_process lane) s.history) (IsOpenPart f)
+  pub room : length (entries_of s.history (lane_process lane)) + calls_left lane ≤ room_of s.entries (lane_process lane)
+  pub alive : 1 ≤ calls_left lane → IsKnownAlive s.parents s.history (entries_of s.history (lane_process lane)) (lane_process lane)
+
+-- What holds of every lane: its calls may be a lane's, no more are done than there are, and a transfer that is out is that of its seat, wasn't made yet, and is
+-- for a call that is left.
+pub record IsSoundLane (seat : ℕ) (calls : List Call) (done : ℕ) (flight : Option FlightSeen) : Type 0 where
+  pub made : AreLaneCalls calls
+  pub few : done ≤ length calls
+  pub out : IfSome flight (λ f. (f.seat ≡ seat) × (f.outcome ≡ fresh) × (done < length calls))
