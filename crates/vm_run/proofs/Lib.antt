@@ -20,6 +20,7 @@ pub mod FileRecords
 pub mod FileBytesLeft
 pub mod Plays
 pub mod Attempts
+pub mod Rounds
 pub mod EntryRooms
 pub mod OpenedPages
 pub mod StartedFlat

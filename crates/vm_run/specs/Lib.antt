@@ -7,5 +7,6 @@ pub mod Played
 pub mod Course
 pub mod Reading
 pub mod Lines
+pub mod Transfers
 pub mod Ended
 pub mod AskedTexts

@@ -1,5 +1,5 @@
 //! The lines of a plan of one block, made on the kernel itself.
-ghost use Rattle.std.specs.Prelude.{◌≡◌, ◌⊎◌, [], ◌∷◌, List, All, OnOk, OnErr};
+ghost use Rattle.std.specs.Prelude.{◌≡◌, ◌⊎◌, [], ◌∷◌, List, All, OnOk, OnErr, length};
 ghost use mathlib.Core.List.{IsPrefix};
 ghost use Rattle.volume_files.specs.flat_model.Told.{entries_of};
 ghost use Rattle.volume_files.specs.vm_script.declared.plan.PlanLine.{PlanLine};
@@ -15,18 +15,18 @@ ghost use Rattle.vm_run.specs.Lines.{alone_caller, alone_kernel, AreOfOne, Names
 use crate::making::make_call;
 use block_runs::{bytes_in, cut_write};
 use std::alloc::AllocError;
-use std::sync::Wait;
 use vm_core::VmState;
 use vm_types::next_part;
 use volume_files::{Call, Disk, PlanAct, PlanLine};
 
 // Makes a call to its end, a read or a write part by part. `bytes` are those of a write that are still to come.
 fn make_parts<D: Disk>(
-    rt: &impl Wait,
     state: &mut VmState<D>,
+    frames: u32,
     call: &Call,
     bytes: &[u8],
 ) -> Result<(), AllocError>
+    requires frames { length state.old.memory.world.store.frames ≡ frames }
     requires still { FitsStill state.old }
     requires alone { AreOfOne state.old.history }
     requires may { MayMakeParts (alone_kernel state.old)
@@ -40,8 +40,8 @@ fn make_parts<D: Disk>(
 {
     let mut call = *call;
     let mut left = bytes;
-    for _ in rt.forever() {
-        let reply = make_call(rt, state, &call)?;
+    loop {
+        let reply = make_call(state, frames, &call)?;
         let Some(next) = next_part(&call, &reply, left) else {
             return Ok(());
         };
@@ -49,16 +49,16 @@ fn make_parts<D: Disk>(
         left = behind;
         call = next;
     }
-    unreachable!()
 }
 
 // Makes a line that names a file. Not inline, so that another line has no room for the parts of a write.
 #[inline(never)]
 fn make_named<D: Disk>(
-    rt: &impl Wait,
     state: &mut VmState<D>,
+    frames: u32,
     line: &PlanLine,
 ) -> Result<(), AllocError>
+    requires frames { length state.old.memory.world.store.frames ≡ frames }
     requires still { FitsStill state.old }
     requires alone { AreOfOne state.old.history }
     requires line { IsCallLine line.now.act }
@@ -73,7 +73,7 @@ fn make_named<D: Disk>(
     ensures err { OnErr result (state.new.history ≡ state.old.history) }
 {
     match &line.act {
-        PlanAct::Named { call, .. } => make_parts(rt, state, call, &[]),
+        PlanAct::Named { call, .. } => make_parts(state, frames, call, &[]),
         PlanAct::Write {
             file,
             offset,
@@ -81,7 +81,7 @@ fn make_named<D: Disk>(
             ..
         } => {
             let (first, behind) = cut_write(*file, *offset, bytes.bytes());
-            make_parts(rt, state, &first, behind)
+            make_parts(state, frames, &first, behind)
         }
         PlanAct::Call(_) | PlanAct::Wait => unreachable!(),
     }
@@ -89,10 +89,11 @@ fn make_named<D: Disk>(
 
 // Makes a line.
 fn make_line<D: Disk>(
-    rt: &impl Wait,
     state: &mut VmState<D>,
+    frames: u32,
     line: &PlanLine,
 ) -> Result<(), AllocError>
+    requires frames { length state.old.memory.world.store.frames ≡ frames }
     requires still { FitsStill state.old }
     requires alone { AreOfOne state.old.history }
     requires line { IsCallLine line.now.act }
@@ -107,19 +108,20 @@ fn make_line<D: Disk>(
 {
     match &line.act {
         PlanAct::Call(call) => {
-            make_call(rt, state, call)?;
+            make_call(state, frames, call)?;
             Ok(())
         }
-        _ => make_named(rt, state, line),
+        _ => make_named(state, frames, line),
     }
 }
 
 /// Makes the lines of process 1. The error is want of memory: no line behind is made then.
 pub fn make_lines<D: Disk>(
-    rt: &impl Wait,
     state: &mut VmState<D>,
+    frames: u32,
     lines: &[PlanLine],
 ) -> Result<(), AllocError>
+    requires frames { length state.old.memory.world.store.frames ≡ frames }
     requires still { FitsStill state.old }
     requires none { state.old.history ≡ [] }
     requires plain { All (λ (l : PlanLine). IsCallLine l.act) lines.now }
@@ -133,7 +135,7 @@ pub fn make_lines<D: Disk>(
     ensures all { OnOk result (Spell (own_of 1 lines.now) (entries_of state.new.history 1)) }
 {
     for line in lines {
-        make_line(rt, state, line)?;
+        make_line(state, frames, line)?;
     }
     Ok(())
 }

@@ -5,9 +5,9 @@ ghost use Rattle.vm_core.specs.Calls.{TakesMemory};
 ghost use Rattle.vm_core.specs.vm_world.Events.{IsEvent};
 ghost use Rattle.vm_kernel.specs.Turns.{MayCall};
 ghost use Rattle.vm_run.specs.Lines.{alone_caller, alone_kernel, AreOfOne, HasOneMore, GrowsWith};
+ghost use Rattle.vm_run.specs.Transfers.{MakesTransfer};
 
 use std::alloc::AllocError;
-use std::sync::Wait;
 use vm_core::{Attempt, Plan, VmState};
 use volume_files::{Call, Disk, Reply};
 
@@ -26,20 +26,26 @@ pub fn transfer<D: Disk>(
     ensures event { IsEvent 0 state.old None state.new None }
     ensures grows { GrowsWith (option_map (λ (c : ℕ × _). (c.0, c.1.now)) of.entry) result
         state.old state.new }
+    ensures goes { MakesTransfer state.old state.new plan
+        (option_map (λ (c : ℕ × _). (c.0, c.1.now)) of.entry) result }
 {
     let mut flight = state.begin(0, plan);
     let _ = flight.perform();
     state.end(0, flight, of)
 }
 
-/// Makes a call of process 1 to its end. The error is want of memory; no entry is made then. Inline, so that a reply that nobody
-/// reads isn't moved.
+/// Makes a call of process 1 to its end, over so many frames. The error is want of memory; no entry is made then. Inline, so that
+/// a reply that nobody reads isn't moved.
+///
+/// It ends: each transfer leaves one modified page fewer, or one page fewer that the call wants and that isn't home. These are two
+/// pages at most, so that the call is tried so often at most as there are frames, and three times more.
 #[inline(always)]
 pub fn make_call<D: Disk>(
-    rt: &impl Wait,
     state: &mut VmState<D>,
+    frames: u32,
     call: &Call,
 ) -> Result<Reply, AllocError>
+    requires frames { length state.old.memory.world.store.frames ≡ frames }
     requires still { FitsStill state.old }
     requires alone { AreOfOne state.old.history }
     requires may { MayCall (alone_kernel state.old) (alone_caller state.old state.old.history)
@@ -50,7 +56,7 @@ pub fn make_call<D: Disk>(
     ensures takes { OnErr result (TakesMemory call.now) }
     ensures err { OnErr result (state.new.history ≡ state.old.history) }
 {
-    for _ in rt.forever() {
+    for _round in 0..u64::from(frames) + 3 {
         match state.try_call(0, 1, call)? {
             Attempt::Done(reply) => return Ok(reply),
             Attempt::Need(plan) => {

@@ -17,7 +17,7 @@ use std::thread::Threads;
 use vm_core::{Finished, VmState};
 use vm_kernel::kernel::VmKernel;
 use vm_kernel::starting::Room;
-use volume_files::{Disk, Files, Plan};
+use volume_files::{Disk, Files, Plan, amounts_of};
 
 /// What is left of a kernel once its processes ran.
 #[derive(Drop)]
@@ -37,8 +37,8 @@ fn look_at(files: &Files)
     }
 }
 
-// Makes the lines of one block, on this very thread. False where memory lacked.
-fn play_alone<D: Disk>(rt: &impl Wait, state: VmState<D>, plan: &Plan) -> (VmState<D>, bool)
+// Makes the lines of one block, on this very thread. False where memory lacked. It waits for nobody, and ends.
+fn play_alone<D: Disk>(state: VmState<D>, plan: &Plan) -> (VmState<D>, bool)
     requires playable { IsPlayable plan.now }
     requires alone { is_alone plan.now ≡ true }
     requires started { (F : Flat) × (disks : List (ℕ × DiskSeen)) × (swap : Option DiskSeen)
@@ -46,7 +46,8 @@ fn play_alone<D: Disk>(rt: &impl Wait, state: VmState<D>, plan: &Plan) -> (VmSta
     ensures { HasPlayed plan.now state result.0 result.1 }
 {
     let mut state = state;
-    let is_whole = make_lines(rt, &mut state, plan.lines()).is_ok();
+    let frames = amounts_of(plan.setup()).frames;
+    let is_whole = make_lines(&mut state, frames, plan.lines()).is_ok();
     (state, is_whole)
 }
 
@@ -96,7 +97,7 @@ fn play_plan<R: Threads + Wait + Sync, D: Disk + Send>(
     ensures { HasPlayed plan.now state result.0 result.1 }
 {
     if turns == 0 && is_alone(plan) {
-        play_alone(rt, state, plan)
+        play_alone(state, plan)
     } else {
         play_blocks(rt, alloc, state, rooms, plan, turns)
     }

@@ -4,6 +4,7 @@ use Rattle.volume_files.specs.vm_script.declared.plan.PlanLine.{PlanLine}
 use Rattle.block_runs.specs.Lines.{IsCallLine}
 use Rattle.vm_run.proofs.Alone.{line-may, lines-all, lines-front, lines-more, lines-start}
 use Rattle.vm_run.proofs.GoingOn.{stays-still}
+use Rattle.vm_run.proofs.Rounds.{frames-still}
 use Rattle.vm_run.proofs.Trips.{then-too}
 use Rattle.vm_run.proofs.lines.make_lines.Given.{Over}
 use Rattle.vm_run.proofs.lines.make_lines.Goals as goal
@@ -11,6 +12,9 @@ use Rattle.vm_run.proofs.lines.make_lines.Goals.{After-line-item}
 
 pub loop-line-init : goal.loop-line-init
 loop-line-init g c = lines-start c.args.state.now c.args.lines.now c.requires.none c.requires.ready
+
+pub make_line-requires-clause-frames : goal.make_line-requires-clause-frames
+make_line-requires-clause-frames g c = frames-still c.args.state.now c.loop-line.state c.args.frames c.loop-line.invariant.event c.requires.frames
 
 pub make_line-requires-clause-still : goal.make_line-requires-clause-still
 make_line-requires-clause-still g c = stays-still c.args.state.now c.loop-line.state c.loop-line.invariant.event c.requires.still

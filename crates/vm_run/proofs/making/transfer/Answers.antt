@@ -39,3 +39,24 @@ pub returns-clause-grows : goal.returns-clause-grows
 returns-clause-grows g c =
     let at = (goal.at.returns-clause-grows g c).After-perform in
     grows-as (caller g at) c.end.result c.args.state.now c.begin-flight.new.self c.end.new.self (ap (λ (s : KernelState). s.history) c.begin-flight.ensures.rest) c.end.ensures.entry
+
+pub returns-clause-goes : goal.returns-clause-goes
+returns-clause-goes g c = record {
+  mid = c.begin-flight.new.self;
+  flight = c.begin-flight.result;
+  sends = record {
+    flight = c.begin-flight.ensures.flight;
+    store = c.begin-flight.ensures.begins;
+    places = c.begin-flight.ensures.places;
+    tables = c.begin-flight.ensures.tables;
+    rest = c.begin-flight.ensures.rest;
+  };
+  comes = record {
+    back = c.perform.new.self;
+    performed = c.perform.ensures.performed;
+    ends = c.end.ensures.ends;
+    world = c.end.ensures.tables;
+    spaces = c.end.ensures.spaces;
+  };
+  tells = c.end.ensures.answer;
+}
