@@ -216,32 +216,34 @@ const CASES: [Case; 20] = [
     },
 ];
 
-// Runs it, and looks at how it ended.
-fn look_at(rt: &(impl Threads + Wait + Sync), alloc: Global, case: &Case) -> Result<(), Fail> {
-    let fails = Fails {
+fn fails_of(case: &Case) -> Fails {
+    Fails {
         disk_0: case.disk_0,
         disk_1: case.disk_1,
         ..NEVER
-    };
-    let left = run_trial(rt, alloc, NO_WORDS, case.script, &fails)?;
-    let name = case.name;
-    if (left.status, left.fault) != (case.status, case.fault) {
-        let (status, fault) = (left.status, left.fault);
-        return Err(Fail::new(format_args!("{name}: {status}, {fault}")));
     }
-    if left.text.as_slice() != case.text {
-        return Err(Fail::new(format_args!("{name}: the text")));
-    }
-    if (left.first, left.second) != (case.first, case.second) {
-        return Err(Fail::new(format_args!("{name}: the transfers")));
+}
+
+// Runs each of these, and looks at how it ended.
+fn look_at(rt: &(impl Threads + Wait + Sync), alloc: Global, cases: &[Case]) -> Result<(), Fail> {
+    for case in cases {
+        let left = run_trial(rt, alloc, NO_WORDS, case.script, &fails_of(case))?;
+        let name = case.name;
+        if (left.status, left.fault) != (case.status, case.fault) {
+            let (status, fault) = (left.status, left.fault);
+            return Err(Fail::new(format_args!("{name}: {status}, {fault}")));
+        }
+        if left.text.as_slice() != case.text {
+            return Err(Fail::new(format_args!("{name}: the text")));
+        }
+        if (left.first, left.second) != (case.first, case.second) {
+            return Err(Fail::new(format_args!("{name}: the transfers")));
+        }
     }
     Ok(())
 }
 
 #[test]
 fn joined_disks_fail_as_their_members_do(rt: HostRuntime) -> Result<(), Fail> {
-    for case in &CASES {
-        look_at(&rt, rt.alloc(), case)?;
-    }
-    Ok(())
+    look_at(&rt, rt.alloc(), &CASES)
 }

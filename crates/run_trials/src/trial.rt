@@ -105,7 +105,10 @@ fn members_of(alloc: Global, disks: Vec<JoinedDisk<MemDisk>>) -> Result<Vec<MemD
 
 fn swap_transfers(swap: Option<JoinedDisk<MemDisk>>) -> (u64, u64) {
     match swap {
-        Some(disk) => transfers(Some(&disk.parts().0)),
+        Some(disk) => {
+            let (disk, _second) = disk.parts();
+            transfers(Some(&disk))
+        }
         None => (0, 0),
     }
 }
