@@ -211,7 +211,7 @@ pub(crate) fn run_failing(
         rack.keep(PathText::new(alloc, b"v")?, Vec::from_slice(alloc, blocks)?)?;
     }
     let (outcome, text) = run_over(rt, alloc, NO_WORDS, script, &NEVER, &mut rack)?;
-    left_of(alloc, &outcome, text)
+    left_of(alloc, outcome, text)
 }
 
 // A rack whose disks don't tell what they hold.
