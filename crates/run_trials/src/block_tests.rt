@@ -268,7 +268,7 @@ fn count_others(alloc: Global, left: &Left) -> Result<u32, Fail> {
     for page in 0..2u32 {
         match last_front(opened(alloc)?, entries, page, &blocks[1 + page as usize])? {
             Some(front) if start <= front as u64 => {}
-            _ => others = (others + 1).min(2),
+            _ => others = if others == 0 { 1 } else { 2 },
         }
     }
     Ok(others)
