@@ -378,13 +378,13 @@ fn runs_end_as_the_rules_say(rt: HostRuntime) -> Result<(), Fail> {
 
 // A script that isn't in the grammar or breaks a set-up rule, its status, and what is printed.
 #[derive(Clone, Copy)]
-struct Broken {
-    status: u8,
-    script: &'static [u8],
-    text: &'static [u8],
+pub(crate) struct Broken {
+    pub(crate) status: u8,
+    pub(crate) script: &'static [u8],
+    pub(crate) text: &'static [u8],
 }
 
-const BROKEN: [Broken; 17] = [
+pub(crate) const BROKEN: [Broken; 17] = [
     Broken {
         status: 3,
         script: b"process\nload 0x2000\t1\nend\n",

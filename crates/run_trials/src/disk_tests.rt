@@ -183,13 +183,20 @@ fn a_run_is_the_same_over_disks_that_tell_nothing(rt: HostRuntime) -> Result<(),
     Ok(())
 }
 
-// A process begins with a file of so many bytes, all 0x41.
-pub(crate) fn script_of_file(alloc: Global, count: usize) -> Result<String, AllocError> {
+/// Two lines, of a disk and of a file of so many bytes, all 0x41.
+pub(crate) fn file_lines(alloc: Global, count: usize) -> Result<String, AllocError> {
     let mut script = String::from_str(alloc, "disk 0 blank 8\nfile c rw 0 2 ")?;
     for _ in 0..count {
         script.push_str("41")?;
     }
-    script.push_str("\nprocess\n")?;
+    script.push_str("\n")?;
+    Ok(script)
+}
+
+// A process begins with such a file.
+pub(crate) fn script_of_file(alloc: Global, count: usize) -> Result<String, AllocError> {
+    let mut script = file_lines(alloc, count)?;
+    script.push_str("process\n")?;
     Ok(script)
 }
 
@@ -208,8 +215,8 @@ fn long_lines(alloc: Global, count: u32) -> Result<String, AllocError>
     Ok(lines)
 }
 
-// So many files of one page each on one disk.
-fn many_files(alloc: Global, count: u32) -> Result<String, AllocError> {
+/// So many files of one page each on one disk.
+pub(crate) fn many_files(alloc: Global, count: u32) -> Result<String, AllocError> {
     let mut script = String::from_str(alloc, "disk 0 blank 128\n")?;
     for file in 0..count {
         script.push_str(&format!(in alloc; "file f{file} rw 0 1 -\n")?)?;

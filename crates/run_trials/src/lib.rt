@@ -2,9 +2,13 @@
 #![tactic(auto)]
 
 #[cfg(test)]
+mod beside_tests;
+#[cfg(test)]
 mod block_tests;
 #[cfg(test)]
 mod case_tests;
+#[cfg(test)]
+mod cut_tests;
 #[cfg(test)]
 mod disk_tests;
 #[cfg(test)]
@@ -12,16 +16,26 @@ mod fault_tests;
 #[cfg(test)]
 mod file_tests;
 #[cfg(test)]
+mod forest_tests;
+#[cfg(test)]
+mod gated_rack;
+#[cfg(test)]
 mod joined_tests;
 #[cfg(test)]
 mod kept_tests;
 #[cfg(test)]
 mod mapping_tests;
 #[cfg(test)]
+mod overlap_tests;
+#[cfg(test)]
 mod random_tests;
+#[cfg(test)]
+mod retelling;
 #[cfg(test)]
 mod tree_tests;
 #[cfg(test)]
 mod trial;
+#[cfg(test)]
+mod turn_tests;
 #[cfg(test)]
 mod word_tests;

@@ -11,12 +11,12 @@ use vm_types::{Call, Entry, Line, Reply, ends_call};
 
 // Numbers by chance: a linear congruential generator.
 #[derive(Drop)]
-struct Chance {
-    last: u32,
+pub(crate) struct Chance {
+    pub(crate) last: u32,
 }
 
 impl Chance {
-    fn below(&mut self, bound: u32) -> u32
+    pub(crate) fn below(&mut self, bound: u32) -> u32
         requires { 0 < bound }
         ensures { result < bound }
     {
@@ -104,7 +104,7 @@ fn file_line(alloc: Global, chance: &mut Chance) -> Result<String, AllocError> {
     }
 }
 
-fn random_line(alloc: Global, chance: &mut Chance) -> Result<String, AllocError> {
+pub(crate) fn random_line(alloc: Global, chance: &mut Chance) -> Result<String, AllocError> {
     match chance.below(19) {
         0..=3 => mapping_line(alloc, chance),
         4..=6 => file_line(alloc, chance),
@@ -120,7 +120,7 @@ fn random_line(alloc: Global, chance: &mut Chance) -> Result<String, AllocError>
 }
 
 // The bytes of the file at the start.
-const BYTES: [u8; 4100] = [0x41; 4100];
+pub(crate) const BYTES: [u8; 4100] = [0x41; 4100];
 
 // A script over so many frames and slots.
 fn random_script(
@@ -177,13 +177,13 @@ pub(crate) fn replays(flat: &mut FlatState, entries: &[Entry]) -> Result<bool, A
     Ok(true)
 }
 
-// Whether the line of this number of the file has these bytes.
-fn reads(flat: &mut FlatState, line: u32, bytes: &[u8]) -> Result<bool, AllocError>
+// Whether a process reads these bytes in the line of this number of the file.
+fn reads(flat: &mut FlatState, process: u32, line: u32, bytes: &[u8]) -> Result<bool, AllocError>
     requires line { line < 256 }
     requires bytes { length bytes.now ≤ 64 }
 {
     let entry = Entry {
-        process: 1,
+        process,
         call: Call::Read {
             file: 0,
             offset: 64 * line,
@@ -195,16 +195,20 @@ fn reads(flat: &mut FlatState, line: u32, bytes: &[u8]) -> Result<bool, AllocErr
     acts(flat, &entry)
 }
 
-// The length of the only file of a disk, by its table.
-fn length_in(table: &Block) -> usize
+/// The length of the only file of a disk, by its table.
+pub(crate) fn length_in(table: &Block) -> usize
     ensures { result < 2 ^ 32 }
 {
     let bytes = &table.bytes;
     u32::from_be_bytes([bytes[48], bytes[49], bytes[50], bytes[51]]) as usize
 }
 
-// Whether the file that these blocks have from block 1 on, which may have grown by a page, is that of flat memory.
-fn is_file(flat: &mut FlatState, blocks: &[Block]) -> Result<bool, AllocError> {
+/// Whether the file that these blocks have from block 1 on, which may have grown by a page, is that of flat memory, as a process reads it.
+pub(crate) fn is_file(
+    flat: &mut FlatState,
+    process: u32,
+    blocks: &[Block],
+) -> Result<bool, AllocError> {
     if blocks.len() != 8 {
         return Ok(false);
     }
@@ -216,7 +220,7 @@ fn is_file(flat: &mut FlatState, blocks: &[Block]) -> Result<bool, AllocError> {
         let page = &blocks[1 + line / 64].bytes[..];
         let first = 64 * (line % 64);
         let count = (length - 64 * line).min(64);
-        if !reads(flat, line as u32, &page[first..first + count])? {
+        if !reads(flat, process, line as u32, &page[first..first + count])? {
             return Ok(false);
         }
     }
@@ -247,7 +251,7 @@ fn is_flat(alloc: Global, slots: u32, left: &Left) -> Result<bool, AllocError> {
         Some((exit, entries)) => Ok(
             calls_in(entries) == 124
                 && replays(&mut flat, entries)?
-                && is_file(&mut flat, blocks)?
+                && is_file(&mut flat, 1, blocks)?
                 && acts(&mut flat, exit)?,
         ),
         None => Ok(false),

@@ -112,8 +112,8 @@ fn look_at(left: &Left, name: &str, text: &[u8], flat: FlatState) -> Result<(), 
     Ok(())
 }
 
-// Runs a script with a trace, beside turns of the pageout daemon, and checks what was printed before this report.
-fn look_at_trace(
+/// Runs a script with a trace, beside turns of the pageout daemon, and checks what was printed before this report.
+pub(crate) fn look_at_trace(
     rt: &(impl Threads + Wait + Sync),
     alloc: Global,
     script: &[u8],

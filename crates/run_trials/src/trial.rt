@@ -131,8 +131,8 @@ fn left_of(
     })
 }
 
-// The outcome of a run over this rack, and what it prints. The source gives 7 bytes a call, and the sink takes 5.
-fn run_over<R: Rack>(
+/// The outcome of a run over this rack, and what it prints. The source gives 7 bytes a call, and the sink takes 5.
+pub(crate) fn run_over<R: Rack>(
     rt: &(impl Threads + Wait + Sync),
     alloc: Global,
     words: &str,
