@@ -100,7 +100,7 @@ fn fail_in_turn(
         if transfers(disk, &left) < u64::from(call) {
             // The script has more pages than there are frames.
             return match call {
-                0..=8 => Err(Fail::new(format_args!("the disk has {call} calls"))),
+                0..=1 => Err(Fail::new(format_args!("the disk has {call} calls"))),
                 _ => Ok(()),
             };
         }
