@@ -5,7 +5,7 @@ use Rattle.std.proofs.lemmas.Bool.Decides.{nat_tests}
 use Rattle.std.proofs.lemmas.Option.{slice_get_cases, slice_get_read}
 use Rattle.addr_space.specs.declared.ranges.Span.{Span}
 use Rattle.addr_space.specs.Space.{Part, part, part_at, begins, next_first, with_new_part, cut_at, without_part, with_new_piece, IsInOrder, LiesFrom, IsGap, FindsGap, FindsNext, FindsLast, page_total}
-use Rattle.addr_space.specs.Inside.{span_parts, count_below, IsHolder, NoneHolds, SpansRise, gap_in_spans, IsSoundRanges, IsCountedRanges}
+use Rattle.addr_space.specs.Inside.{span_parts, covers, count_below, IsHolder, NoneHolds, SpansRise, gap_in_spans, IsSoundRanges, IsCountedRanges}
 use Rattle.addr_space.proofs.PartLemmas.{none-below}
 
 -- a count that a search finds is the count
@@ -69,6 +69,14 @@ last-below low (s ∷ ss) q zero x r e is = grind (arith, nat_tests, none-counte
 last-below low (s ∷ ss) q (suc i) x r e is =
     grind (arith, nat_tests, last-below (s.first + s.pages) ss q i x r.3)
 
+-- a span that has the page is the first that does
+pub holds-near : (low : ℕ) (ss : List Span) (q i : ℕ) (x : Span) → SpansRise low ss → i < length ss
+    → x ≡ get_or ss i x → covers x q ≡ true → IsHolder q ss i
+holds-near low [] q i x r lt is has = absurd (omega arith)
+holds-near low (s ∷ ss) q zero x r lt is has = grind (arith, nat_tests)
+holds-near low (s ∷ ss) q (suc i) x r lt is has =
+    grind (arith, nat_tests, holds-near (s.first + s.pages) ss q i x r.3, first-above (s.first + s.pages) ss i x r.3)
+
 -- a gap that fits before the next span
 pub gap-here : (low pages : ℕ) (ss : List Span) (i : ℕ) (d : Span) → i < length ss → SpansRise low (drop i ss)
     → (low ≤ (get_or ss i d).first)
@@ -96,6 +104,7 @@ module _ {T : Type 0} where
     pub below : q < s.first + s.pages
     pub piece : (d : T) → get_or xs i d ≡ x
     pub found : part_at (span_parts ss xs) q ≡ Some (part s.first s.pages x)
+    pub at : slice_get (span_parts ss xs) i ≡ Some (part s.first s.pages x)
     pub written : (w : T) → span_parts ss (set xs i w) ≡ with_new_piece q w (span_parts ss xs)
     pub cut : (u : T) →
         span_parts (insert (set ss i (record { first = s.first; pages = q - s.first })) (i + 1)

@@ -1,8 +1,8 @@
 //! Pieces by page, in two vectors of one length: where each piece lies, and the piece.
-ghost use Rattle.std.specs.Prelude.{◌≡◌, ℕ, ◌+◌, ◌-◌, ◌<◌, ◌≤◌, ◌&&◌, nat_le, if◌then◌else◌, [], length, Option, Some, None, MatchOption, IfSome, IsSome, IsSomeAnd, OnOk, option_map, insert, remove, vec_len, vec_capacity};
+ghost use Rattle.std.specs.Prelude.{◌≡◌, ℕ, ◌+◌, ◌-◌, ◌<◌, ◌≤◌, ◌^◌, ◌&&◌, nat_le, if◌then◌else◌, [], length, Option, Some, None, MatchOption, IfSome, IsSome, IsSomeAnd, OnOk, option_map, slice_get, insert, remove, vec_len, vec_capacity};
 ghost use Rattle.std.specs.Borrow.{sem};
 ghost use Rattle.addr_space.specs.Space.{part, has, piece_at, part_at, begins, next_first, with_new_part, cut_at, without_part, upper_part, IsInOrder, FindsGap, FindsNext, FindsLast, with_new_piece, page_total};
-ghost use Rattle.addr_space.specs.Inside.{count_below, SpansRise, FindsHolder, FindsFirst, gap_in_spans};
+ghost use Rattle.addr_space.specs.Inside.{covers, count_below, SpansRise, FindsHolder, FindsFirst, gap_in_spans};
 
 use std::alloc::{AllocError, Global};
 use std::marker::Model;
@@ -66,6 +66,24 @@ fn place_of(spans: &Vec<Span>, page: u32) -> Option<usize>
     } else {
         None
     }
+}
+
+fn has_page(span: Span, page: u32) -> bool
+    ensures { result ≡ covers span page }
+{
+    span.first <= page && page - span.first < span.pages
+}
+
+// The place of the span that has the page. The span at the place `near`, if there is one, is looked at
+// before the others.
+fn place_near(spans: &Vec<Span>, near: usize, page: u32) -> Option<usize>
+    requires { SpansRise 1 spans.now.items }
+    ensures { FindsHolder spans.now.items page result }
+{
+    if near < spans.len() && has_page(spans[near], page) {
+        return Some(near);
+    }
+    place_of(spans, page)
 }
 
 // The place of the span that begins with the page.
@@ -145,6 +163,23 @@ impl<T> Ranges<T> {
         Some((span.first, span.pages, &self.pieces[place]))
     }
 
+    /// As `find`, with the place of the piece among the pieces before the rest. `near` may be any number: a
+    /// caller that goes from piece to piece gives the place behind the last one.
+    ///
+    /// Time: constant where the piece at `near` has the page, else as `find`.
+    pub fn find_near(&self, near: usize, page: u32) -> Option<(usize, u32, u32, &T)>
+        ensures found { MatchOption result (part_at self.now.parts page ≡ None)
+            (λ r. part_at self.now.parts page ≡ Some (part r.1 r.2 r.3.now)) }
+        ensures place { IfSome result (λ r.
+            slice_get self.now.parts r.0 ≡ part_at self.now.parts page) }
+        ensures ordered { IsInOrder 1 self.now.parts }
+        ensures small { IfSome result (λ r. r.0 < 2 ^ 63) }
+    {
+        let place = place_near(&self.spans, near, page)?;
+        let span = self.spans[place];
+        Some((place, span.first, span.pages, &self.pieces[place]))
+    }
+
     /// The piece that has this page, to write to. What is written changes that piece alone.
     ///
     /// Time: the logarithm of the number of pieces.
@@ -157,7 +192,22 @@ impl<T> Ranges<T> {
             ≡ (if has p q then Some (w, q - p.first) else piece_at self.old.parts q)) }
         ensures ordered { (w : T) → IsInOrder 1 (with_new_piece page w self.old.parts) }
     {
-        let place = place_of(&self.spans, page)?;
+        self.find_mut_near(usize::MAX, page)
+    }
+
+    /// As `find_mut`. The piece at the place `near`, which may be any number, is looked at before the others.
+    ///
+    /// Time: constant where the piece at `near` has the page, else as `find_mut`.
+    pub fn find_mut_near(&mut self, near: usize, page: u32) -> Option<&mut T>
+        ensures* writes_back { sem 𝓛 (lends_piece T.row self.entry page result) }
+        ensures found { MatchOption result (part_at self.old.parts page ≡ None)
+            (λ r. option_map (λ p. p.piece) (part_at self.old.parts page) ≡ Some r.now) }
+        ensures pages { IfSome (part_at self.old.parts page) (λ p. (w : T) (q : ℕ) →
+            piece_at (with_new_piece page w self.old.parts) q
+            ≡ (if has p q then Some (w, q - p.first) else piece_at self.old.parts q)) }
+        ensures ordered { (w : T) → IsInOrder 1 (with_new_piece page w self.old.parts) }
+    {
+        let place = place_near(&self.spans, near, page)?;
         self.pieces.get_mut(place)
     }
 

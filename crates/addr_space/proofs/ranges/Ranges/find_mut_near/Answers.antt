@@ -3,10 +3,10 @@ use Rattle.std.proofs.Math.ListN.{length-set}
 use Rattle.addr_space.proofs.PageLaws.{pages-written, ordered-written}
 use Rattle.addr_space.proofs.SpanLemmas.{rising, none-part, some-part, counted-from, parts-of}
 use Rattle.addr_space.proofs.Totals.{total-with_new_piece}
-use Rattle.addr_space.proofs.ranges.Ranges.find_mut.Goals as goal
+use Rattle.addr_space.proofs.ranges.Ranges.find_mut_near.Goals as goal
 
-pub place_of-requires : goal.place_of-requires
-place_of-requires g c = rising c.self.invariant.sound
+pub place_near-requires : goal.place_near-requires
+place_near-requires g c = rising c.self.invariant.sound
 
 pub returns-in_err-place : goal.returns-in_err-place
 returns-in_err-place g c =
