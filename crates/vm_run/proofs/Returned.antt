@@ -7,7 +7,7 @@ use Rattle.std.specs.FinMap as finite
 use Rattle.std.proofs.lemmas.List.{length-map}
 use Rattle.std.proofs.lemmas.Bool.{cases_eq}
 use Rattle.std.proofs.lemmas.Option.{none-some, slice_get_within, slice_get-get_or}
-use Rattle.volume_files.specs.block_device.DiskSeen.{DiskKind, DiskSeen, HasBlocks}
+use Rattle.volume_files.specs.block_device.DiskSeen.{DiskSeen, HasBlocks}
 use Rattle.volume_files.specs.block_device.declared.disk_fault.DiskFault.{DiskFault}
 use Rattle.vm_core.specs.page_hash.declared.PageName.{PageName}
 use Rattle.vm_core.specs.page_store.Bays.{BaySeen, missing, home, out, bay_at, bay_of, disk_in, home_faults, no_disk, IsStill}
@@ -21,7 +21,7 @@ use Rattle.volume_files.specs.vnode_files.Layout.{disk_of_file}
 use Rattle.volume_files.specs.vnode_files.Grow.{page_count}
 use Rattle.volume_files.specs.vnode_files.Vnode.{VnodeSeen, IsSoundVnode, no_vnode}
 use Rattle.volume_files.specs.flat_model.Flat.{Flat}
-use Rattle.vm_core.specs.vm_world.DiskPlaces.{disk_fixed, faults_in, seen_in}
+use Rattle.vm_core.specs.vm_world.DiskPlaces.{FixedOfDisk, disk_fixed, faults_in, seen_in}
 use Rattle.vm_core.specs.vm_world.Events.{IsSince}
 use Rattle.vm_core.specs.vm_world.MemoryFits.{MemoryFits}
 use Rattle.vm_core.specs.vm_world.NotesFit.{NotesFit}
@@ -85,7 +85,7 @@ swap-back : (slots : ℕ) (old new : Option DiskSeen) → SwapCameBack (bay_of o
 swap-back slots None None same serves = serves
 swap-back slots None (Some d) same serves = absurd (none-some (disk_fixed d) (sym same))
 swap-back slots (Some x) None same serves = absurd (none-some (disk_fixed x) same)
-swap-back slots (Some x) (Some d) same serves = (serves.0, ap (λ (p : ℕ × DiskKind). p.0) (some-inj (disk_fixed d) (disk_fixed x) same) ∙ serves.1)
+swap-back slots (Some x) (Some d) same serves = (serves.0, ap (λ (f : FixedOfDisk). f.size) (some-inj (disk_fixed d) (disk_fixed x) same) ∙ serves.1)
 
 pub swap-serves-still : (slots : ℕ) (swap : Option DiskSeen) (F : Flat) (s : KernelState) (l : LeftSeen) → bay_at s.memory.world.store.bays 8 ≡ bay_of swap → KernelLeaves F s l
     → IsSwapFor slots swap → IsSwapFor slots l.swap
@@ -96,7 +96,7 @@ swap-as-many : (old new : Option DiskSeen) → SwapCameBack (bay_of old) new →
 swap-as-many None None same = refl
 swap-as-many None (Some d) same = absurd (none-some (disk_fixed d) (sym same))
 swap-as-many (Some x) None same = absurd (none-some (disk_fixed x) same)
-swap-as-many (Some x) (Some d) same = ap (λ (p : ℕ × DiskKind). p.1.members) (some-inj (disk_fixed d) (disk_fixed x) same)
+swap-as-many (Some x) (Some d) same = ap (λ (f : FixedOfDisk). f.kind.members) (some-inj (disk_fixed d) (disk_fixed x) same)
 
 pub swap-still : (swap : Option DiskSeen) (F : Flat) (s : KernelState) (l : LeftSeen) → bay_at s.memory.world.store.bays 8 ≡ bay_of swap → KernelLeaves F s l → swap_members l.swap ≡ swap_members swap
 swap-still swap F s l at left = swap-as-many swap l.swap (subst (λ (b : BaySeen). SwapCameBack b l.swap) at left.swap)
@@ -239,16 +239,19 @@ module _ (F : Flat) (s t : KernelState) (l : LeftSeen) (since : IsSince s t no_s
       (after.memory.disks.sizes (disk_at old i).0 (disk_at old i).1 (home-after i lt)).file (disk_at start i).1.size
       (ap (λ (m : finite.FinMap nat_cmp ℕ). finite.get m (disk_at old i).0) (files-same ∙ ap (λ (g : FilesSeen). g.disks) placed) ∙ ap (finite.get files.disks) (number-same i lt) ∙ set)
 
-  -- THE KINDS, which no event changes
+  -- THE KINDS, which no event changes, and whether a disk tells
   home-before : (i : ℕ) → i < length start → bay_at s.memory.world.store.bays (disk_at start i).0 ≡ home (disk_at start i).1
   home-before i lt = home-there s.memory.world s.memory.spaces i before.memory before.notes lt
 
-  kind-same : (i : ℕ) → i < length old → (disk_at old i).1.kind ≡ (disk_at start i).1.kind
-  kind-same i lt =
+  fixed-same : (i : ℕ) → i < length old → disk_fixed (disk_at old i).1 ≡ disk_fixed (disk_at start i).1
+  fixed-same i lt =
       let inside : i < length start = let e = long-old in omega (arith, lt, e) in
       let now : disk_there t no_seats (disk_at old i).0 ≡ Some (disk_fixed (disk_at old i).1) = ap (λ (b : BaySeen). seen_in disk_fixed b no_notes) (home-after i lt) in
       let was : disk_there s no_seats (disk_at start i).0 ≡ Some (disk_fixed (disk_at start i).1) = ap (λ (b : BaySeen). seen_in disk_fixed b no_notes) (home-before i inside) in
-      ap (λ (p : ℕ × DiskKind). p.1) (some-inj (disk_fixed (disk_at old i).1) (disk_fixed (disk_at start i).1) (sym now ∙ since.disks (disk_at old i).0 ∙ ap (disk_there s no_seats) (number-same i lt) ∙ was))
+      some-inj (disk_fixed (disk_at old i).1) (disk_fixed (disk_at start i).1) (sym now ∙ since.disks (disk_at old i).0 ∙ ap (disk_there s no_seats) (number-same i lt) ∙ was)
+
+  kind-same : (i : ℕ) → i < length old → (disk_at old i).1.kind ≡ (disk_at start i).1.kind
+  kind-same i lt = ap (λ (f : FixedOfDisk). f.kind) (fixed-same i lt)
 
   pub disks-left : (files : FilesSeen) → HaveDisks files start → s.memory.world.files ≡ files → DisksCameBack start l.disks
   disks-left files have placed = record {

@@ -13,7 +13,7 @@ use Rattle.page_store.proofs.page_hash.NameLaws.{find-some}
 use Rattle.page_store.specs.page_lock.Rows.{row_at}
 use Rattle.page_store.specs.Bays.{BaySeen, out, bay_at, block_of}
 use Rattle.page_store.specs.Bytes.{clip}
-use Rattle.page_store.specs.Flight.{FlightSeen, Progress, fresh, done, failed, IsWritten}
+use Rattle.page_store.specs.Flight.{FlightSeen, Progress, fresh, done, failed, IsWritten, IsPerformed}
 use Rattle.page_store.specs.Notes.{Note, Notes, with_note}
 use Rattle.page_store.specs.StoreFits.{NoteAgrees}
 use Rattle.page_store.specs.Value.{content_of, content_in_bay, value, value_in, frame_value, note_of_holder, backing_value}
@@ -56,6 +56,22 @@ notes-return seats seat = λ i k. by_seat (k == seat) k i
     by_seat : (b : Bool) (k : ℕ) → option_map (λ (s : Sent). s.note) (cond b None (seats k)) ≡ cond b None (option_map (λ (s : Sent). s.note) (seats k))
     by_seat true k = refl
     by_seat false k = refl
+
+-- a disk tells after its transfer where it told before it
+pub performed-tells : (note : Note) (f : FlightSeen) → IsPerformed note f → is_some f.disk.content ≡ is_some note.disk.content
+performed-tells note f performed = elim (cases_Bool note.writes) [
+  | inl writes ↦ by_outcome f.outcome (performed.written writes)
+  | inr reads ↦ ap (λ (c : Option (List (List ℕ))). is_some c) (performed.unchanged reads)
+]
+  where
+    some-block : (c : Option (List (List ℕ))) (block : ℕ) (x : List ℕ) → is_some (with_block c block x) ≡ is_some c
+    some-block None block x = refl
+    some-block (Some blocks) block x = refl
+
+    by_outcome : (p : Progress) → IsWritten note f p → is_some f.disk.content ≡ is_some note.disk.content
+    by_outcome fresh w = absurd w
+    by_outcome done w = ap (λ (c : Option (List (List ℕ))). is_some c) w ∙ some-block note.disk.content note.block (clip note.valid note.bytes)
+    by_outcome failed w = ap (λ (c : Option (List (List ℕ))). is_some c) w.2 ∙ some-block note.disk.content note.block w.0
 
 module _ (opening : Flat) (s : KernelState) (new : World) (cut : PageName → Bool) (pending seat : ℕ) (seats : Seats) (sent : Sent) (m : MarksSeen) (fit : PagesFit opening s seats) (marks : MarksOf opening s seats m) where
   abbrev w : World
@@ -139,21 +155,6 @@ module _ (opening : Flat) (s : KernelState) (new : World) (cut : PageName → Bo
     elsewhere k ne = content-apart w.store.bays new.store.bays notes seat sent.note step.bays.1.0 noted one step.bays.0 step.bays.1.1 k ne
 
     -- what became of the disk
-    still-tells : is_some f.disk.content ≡ is_some sent.note.disk.content
-    still-tells = elim (cases_Bool sent.note.writes) [
-      | inl writes ↦ by_outcome f.outcome (back.performed.written writes)
-      | inr reads ↦ ap (λ (c : Option (List (List ℕ))). is_some c) (back.performed.unchanged reads)
-    ]
-      where
-        some-block : (c : Option (List (List ℕ))) (block : ℕ) (x : List ℕ) → is_some (with_block c block x) ≡ is_some c
-        some-block None block x = refl
-        some-block (Some blocks) block x = refl
-
-        by_outcome : (p : Progress) → IsWritten sent.note f p → is_some f.disk.content ≡ is_some sent.note.disk.content
-        by_outcome fresh w = absurd w
-        by_outcome done w = ap (λ (c : Option (List (List ℕ))). is_some c) w ∙ some-block sent.note.disk.content sent.note.block (clip sent.note.valid sent.note.bytes)
-        by_outcome failed w = ap (λ (c : Option (List (List ℕ))). is_some c) w.2 ∙ some-block sent.note.disk.content sent.note.block w.0
-
     other-block : (block : ℕ) → (sent.note.writes ≡ true → block ≢ sent.note.block) → block_of f.disk.content block ≡ block_of sent.note.disk.content block
     other-block block far = elim (cases_Bool sent.note.writes) [
       | inl writes ↦ by_outcome f.outcome (back.performed.written writes) (far writes)
@@ -209,7 +210,7 @@ module _ (opening : Flat) (s : KernelState) (new : World) (cut : PageName → Bo
       blocks-left : LeavesBlocks (replay opening s.history) sent.note was now
       blocks-left = record {
         tells = λ disk. elim (cases_eq disk sent.note.number) [
-          | inl e ↦ subst (λ (k : ℕ). is_some (now k) ≡ is_some (was k)) (sym e) (ap (λ (c : Option (List (List ℕ))). is_some c) here ∙ still-tells ∙ sym (ap (λ (c : Option (List (List ℕ))). is_some c) there))
+          | inl e ↦ subst (λ (k : ℕ). is_some (now k) ≡ is_some (was k)) (sym e) (ap (λ (c : Option (List (List ℕ))). is_some c) here ∙ performed-tells sent.note f back.performed ∙ sym (ap (λ (c : Option (List (List ℕ))). is_some c) there))
           | inr ne ↦ ap (λ (c : Option (List (List ℕ))). is_some c) (elsewhere disk ne)
         ];
         others = λ name disk block at other. elim (cases_eq disk sent.note.number) [

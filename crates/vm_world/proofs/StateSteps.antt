@@ -7,7 +7,7 @@ use Rattle.std.proofs.lemmas.Bool.Decides.{eqb_tells}
 use Rattle.std.proofs.lemmas.List.{append-nil, length-map, length-set, get_or-set_same, get_or-set_other}
 use Rattle.std.proofs.lemmas.List.Elements.{All-nil}
 use Rattle.flat_model.specs.vm_types.declared.call.Entry.{Entry}
-use Rattle.page_store.specs.block_device.DiskSeen.{DiskKind, DiskSeen}
+use Rattle.page_store.specs.block_device.DiskSeen.{DiskSeen}
 use Rattle.page_store.specs.page_hash.declared.PageName.{PageName}
 use Rattle.page_store.specs.Bays.{BaySeen, missing, home, out, bay_at}
 use Rattle.page_store.specs.Flight.{FlightSeen, Progress, fresh, done, failed}
@@ -25,7 +25,7 @@ use Rattle.flat_model.specs.Step.{is_bit_set}
 use Rattle.vm_world.specs.World.{World, AllTell}
 use Rattle.vm_world.specs.Pages.{contents_of}
 use Rattle.vm_world.specs.FlatMemory.{flat_memory, shape_of}
-use Rattle.vm_world.specs.DiskPlaces.{HasCounted, SameDisks, disk_fixed, faults_in, seen_in, seen_of_note}
+use Rattle.vm_world.specs.DiskPlaces.{FixedOfDisk, HasCounted, SameDisks, disk_fixed, faults_in, seen_in, seen_of_note}
 use Rattle.vm_world.specs.HistoryFits.{HistoryFits, FaultsFit}
 use Rattle.vm_world.specs.Marks.{MarksSeen}
 use Rattle.vm_world.specs.MarksOf.{MarksOf, FailuresOf, MaySend, marks_left, marks_ended}
@@ -46,7 +46,7 @@ use Rattle.vm_world.proofs.FrameRule.{frame-flat}
 use Rattle.vm_world.proofs.FlatWhole.{some-inj}
 use Rattle.vm_world.proofs.Callers.{caller-kept, same-modes}
 use Rattle.vm_world.proofs.MayFails.{alive-flat}
-use Rattle.vm_world.proofs.Moving.{state_marks_rule}
+use Rattle.vm_world.proofs.Moving.{performed-tells, state_marks_rule}
 use Rattle.vm_world.proofs.Failed.{state_failures_rule}
 use Rattle.vm_world.proofs.PageNames.{not-slot}
 
@@ -75,8 +75,8 @@ other-seat seats seat k sent far = elim (eqb_tells k seat) [ inl y ↦ absurd (f
 pub this-seat : (seats : Seats) (seat : ℕ) (sent : Option Sent) → with_sent seats seat sent seat ≡ sent
 this-seat seats seat sent = elim (eqb_tells seat seat) [ inl y ↦ ap (λ (b : Bool). cond b sent (seats seat)) y.0 | inr n ↦ absurd (n.1 refl) ]
 
--- the size and the kind of the disk of a number, wherever it is
-abbrev pub disk_there : KernelState → Seats → ℕ → Option (ℕ × DiskKind)
+-- what never changes of the disk of a number, wherever it is
+abbrev pub disk_there : KernelState → Seats → ℕ → Option FixedOfDisk
 disk_there s seats number = seen_in disk_fixed (bay_at s.memory.world.store.bays number) (notes_of seats)
 
 -- no disk moves
@@ -433,7 +433,7 @@ rule-ends s new cut pending seat sent f step tails comes = record {
     most = subst (λ (d : DiskSeen). d.faults ≤ top_count) (sym same) comes.most
 
     unchanged : disk_fixed step.bays.1.0 ≡ disk_fixed sent.note.disk
-    unchanged = ap disk_fixed same ∙ (λ i. (comes.performed.size i, comes.performed.kind i))
+    unchanged = ap disk_fixed same ∙ (λ i. record { size = comes.performed.size i; kind = comes.performed.kind i; tells = performed-tells sent.note f comes.performed i })
 
     one-disk : (opening : Flat) (seats : Seats) → StateFits opening s seats → notes_of seats seat ≡ Some sent.note → (k : ℕ) → bay_at s.memory.world.store.bays k ≡ out seat → k ≡ sent.note.number
     one-disk opening seats fit noted k at =

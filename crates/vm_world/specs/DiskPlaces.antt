@@ -1,5 +1,5 @@
 -- What is seen of a disk, wherever it is. Public clauses cite this.
-use Rattle.std.specs.Prelude.{◌≡◌, ◌≤◌, ℕ, List, Option, Some, None}
+use Rattle.std.specs.Prelude.{◌≡◌, ◌≤◌, ℕ, Bool, List, Option, Some, None, is_some}
 use Rattle.page_store.specs.block_device.DiskSeen.{DiskKind, DiskSeen}
 use Rattle.page_store.specs.Bays.{BaySeen, missing, home, out, bay_at}
 use Rattle.page_store.specs.Notes.{Note, Notes}
@@ -25,11 +25,16 @@ pub record HasCounted (bays : List BaySeen) (notes : Notes) (number least : ℕ)
   pub there : faults_in (bay_at bays number) notes ≡ Some count
   pub enough : least ≤ count
 
--- What never changes of a disk: how many blocks it has, and its kind.
-abbrev pub disk_fixed : DiskSeen → ℕ × DiskKind
-disk_fixed disk = (disk.size, disk.kind)
+-- What never changes of a disk: how many blocks it has, its kind, and whether it tells them.
+pub record FixedOfDisk : Type 0 where
+  pub size : ℕ
+  pub kind : DiskKind
+  pub tells : Bool
 
--- The same disks are there, at home or in notes, each with its size and its kind.
+abbrev pub disk_fixed : DiskSeen → FixedOfDisk
+disk_fixed disk = record { size = disk.size; kind = disk.kind; tells = is_some disk.content }
+
+-- The same disks are there, at home or in notes, each with what never changes of it.
 abbrev pub SameDisks : List BaySeen → Notes → List BaySeen → Notes → Type 0
 SameDisks old before new after =
     (number : ℕ) → seen_in disk_fixed (bay_at new number) after ≡ seen_in disk_fixed (bay_at old number) before

@@ -25,8 +25,8 @@ pub record FollowsHistory (opening : Flat) (s : KernelState) : Type 0 where
   pub refusals : RefusesAsDue opening s.history
 
 -- THE EVENT. Whatever the opening and the other seats are: where a state fits with what a seat had outside, the next one fits with what the seat has
--- then. What is fixed stays, each disk has its size and its kind, wherever it is, and the history grew by entries of the seat's process alone. And whatever disks
--- tell, the state follows its history.
+-- then. What is fixed stays, each disk has its size and its kind and tells where it told, wherever it is, and the history grew by entries of the seat's process alone.
+-- And whatever disks tell, the state follows its history.
 pub record IsEvent (seat : ℕ) (s : KernelState) (before : Option Sent) (t : KernelState) (after : Option Sent) : Type 0 where
   pub fits : (opening : Flat) (seats : Seats) → seats seat ≡ before → StateFits opening s seats → StateFits opening t (with_sent seats seat after)
   pub fixed : fixed_of t ≡ fixed_of s
@@ -36,7 +36,7 @@ pub record IsEvent (seat : ℕ) (s : KernelState) (before : Option Sent) (t : Ke
   pub follows : (opening : Flat) → FollowsHistory opening s → FollowsHistory opening t
 
 -- WHAT EVENTS KEEP, whoever makes them. The opening fits some flat memory with nothing outside; and whichever it fits, the state fits with what the seats have
--- outside. What is fixed stays, each disk has its size and its kind, wherever it is, and the state follows its history.
+-- outside. What is fixed stays, each disk has its size and its kind and tells where it told, wherever it is, and the state follows its history.
 pub record IsSince (opening s : KernelState) (seats : Seats) : Type 0 where
   pub starts : (F : Flat) × StateFits F opening no_seats
   pub fits : (F : Flat) → StateFits F opening no_seats → StateFits F s seats
