@@ -35,6 +35,10 @@ since-then opening s t seats seat before after was at event = record {
   fixed = event.fixed ∙ was.fixed;
   disks = λ number. event.disks was.starts.0 seats at (was.fits was.starts.0 was.starts.1) number ∙ was.disks number;
   follows = λ F so. event.follows F (was.follows F so);
+  unkept = λ F fit tell.
+      let late = event.unkept F seats at (was.fits F fit) tell in
+      let early = was.unkept F fit late.0 in
+      (early.0, λ disk block none. let l = late.1 disk block none in let e = early.1 disk block l.0 in (e.0, l.1 ∙ e.1));
 }
 
 pub state_keeps : (opening s t : KernelState) (notes : List (Option Sent)) (k : ℕ) (n m : Option Sent) → IsSinceOpening opening s notes → get_elem? notes k ≡ some n → Moves k s n t m → IsSinceOpening opening t (slice_set notes k m)

@@ -59,7 +59,8 @@ use Rattle.vm_world.proofs.Changes.{machine-kept, changes-then}
 use Rattle.vm_world.proofs.Entries.{entry-history, entry-faults, entry-calls, entry-rooms, entry-births, entry-part, not-left}
 use Rattle.vm_world.proofs.MayFails.{alive-flat}
 use Rattle.vm_world.proofs.Shapes.{follows-entry, tables-shape}
-use Rattle.vm_world.proofs.StateSteps.{same-seats, disks-still, pages-fit, marks-stay, failures-stay}
+use Rattle.vm_world.proofs.StateSteps.{same-seats, disks-still, unkept-still, pages-fit, marks-stay, failures-stay}
+use Rattle.vm_world.proofs.Unkept.{unkept-before}
 
 -- a call that is no Fork makes no process
 unborn : (F : Flat) (call : Call) → ((child : ℕ) → call ≢ Fork child) → IsUnborn F call
@@ -238,6 +239,7 @@ rule-done s new seat e calls syncs n act after clean keeps may locks starts coun
   disks = λ opening seats is fit. disks-still s (with_entry_marked (record s { memory = new }) e calls syncs n) seat None act.machine.bays seats is;
   grown = (e ∷ [], refl, All-cons (λ (x : Entry). seat_of x.process ≡ seat) e [] may.try.own (All-nil (λ (x : Entry). seat_of x.process ≡ seat)));
   follows = λ opening was. follows-entry opening s (with_entry_marked (record s { memory = new }) e calls syncs n) e refl (λ notes. act.shaped s.born notes) (λ own. may.refusal) was;
+  unkept = λ opening seats is fit. unkept-still opening s (with_entry_marked (record s { memory = new }) e calls syncs n) seat None act.machine.bays seats is (λ tell. (act.tells (notes_of seats) fit.notes).1 tell) (unkept-before opening s.history e);
 }
   where
     -- who is alive was born: the process itself was, and no other came

@@ -46,6 +46,7 @@ use Rattle.vm_world.proofs.Callers.{caller-longer}
 use Rattle.vm_world.proofs.FlatWhole.{some-inj}
 use Rattle.vm_world.proofs.NextParts.{follows-part}
 use Rattle.vm_world.proofs.StateSteps.{rule-ends, caller-step, pages-fit, this-seat}
+use Rattle.vm_world.proofs.Unkept.{unkept-before}
 
 -- no device error of a disk names more than a bound that holds of each
 last-below : (disk c last : ℕ) (H : List Entry) → ((k : ℕ) (e : Entry) (before after : ℕ) → slice_get H k ≡ Some e → e.reply ≡ Io disk before after → after ≤ c) → last ≤ c → fold (count_after disk) last H ≤ c
@@ -191,6 +192,9 @@ rule-fails s new cut pending seat p call sent f calls syncs step tails for_call 
       grown = (io_entry p call f.number f.before f.disk.faults pending ∷ [], refl, All-cons (λ (x : Entry). seat_of x.process ≡ seat) (io_entry p call f.number f.before f.disk.faults pending) [] own (All-nil (λ (x : Entry). seat_of x.process ≡ seat)));
       follows = λ opening was. follows-entry opening (after_return s new pending seat sent.note f) (with_entry_made (after_return s new pending seat sent.note f) (io_entry p call f.number f.before f.disk.faults pending) calls syncs) (io_entry p call f.number f.before f.disk.faults pending) refl
           (λ notes. refl) (λ own. absurd (let z : true ≡ false = own in cc)) (event.follows opening was);
+      unkept = λ opening seats is fit tell.
+          let ended = event.unkept opening seats is fit tell in
+          (ended.0, λ disk block none. ended.1 disk block (unkept-before opening s.history (io_entry p call f.number f.before f.disk.faults pending) disk block none));
     }
 
 pub failure_rule : FailureRule

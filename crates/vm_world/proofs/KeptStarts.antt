@@ -25,7 +25,7 @@ use Rattle.vm_world.specs.Wants.{IsCleanPage}
 use Rattle.vm_world.proofs.Told.{event_law}
 use Rattle.flat_model.specs.vm_types.declared.call.Call.{Call}
 use Rattle.flat_model.specs.vm_types.declared.call.Call.TheVariants as call
-use Rattle.vm_world.proofs.StateSteps.{no-entries, same-seats, disks-still}
+use Rattle.vm_world.proofs.StateSteps.{no-entries, same-seats, disks-still, unkept-still}
 
 starts-now : (H : List Entry) (p : ℕ) → IsStart H (length H) p (length H)
 starts-now H p = (omega arith, λ j d lt at of. lt)
@@ -84,6 +84,7 @@ keeps-start s seat sent lt = record {
   disks = λ opening seats is fit. disks-still s (with_start s seat) seat sent refl seats is;
   grown = no-entries s.history seat;
   follows = λ opening was. record { shape = was.shape; refusals = was.refusals };
+  unkept = λ opening seats is fit. unkept-still opening s (with_start s seat) seat sent refl seats is (λ tell. tell) (λ disk block none. none);
 }
 
 -- A CALL HAS BEGUN.

@@ -14,6 +14,7 @@ pub mod OpeningFits
 pub mod Places
 pub mod FilesNow
 pub mod Contents
+pub mod Unkept
 pub mod Moving
 pub mod Failed
 pub mod Raised

@@ -36,6 +36,7 @@ use Rattle.vm_world.specs.World.{World, world_table, page_exists, is_unpushed, f
 use Rattle.vm_world.specs.WorldSteps.{WorldStep, leaves, returns}
 use Rattle.vm_world.proofs.FlatWhole.{some-inj}
 use Rattle.vm_world.proofs.PageNames.{not-slot}
+use Rattle.vm_world.specs.Events.{IsUnkept, LeavesUnkept}
 use Rattle.vm_world.specs.MarksOf.{MarksOf, SendsFrame, marks_ended}
 use Rattle.vm_world.specs.StateMarks.{PagesFit, StateMarksLaw}
 use Rattle.mark_laws.proofs.Along.{before-some}
@@ -239,6 +240,23 @@ module _ (opening : Flat) (s : KernelState) (new : World) (cut : PageName → Bo
 
       ended : MarksFit opening s.history now (with_note (notes_of seats) seat None) (marks_ended m seat sent.note (length s.history) f)
       ended = by_write sent.note.writes (sent.note.name.object == 64) refl refl
+
+    -- blocks that no file keeps are as they were: a push of a file's page goes to its place
+    pub unkept-end : LeavesUnkept opening s (notes_of seats) (after_step s new pending) (notes_of (with_sent seats seat None))
+    unkept-end = subst (λ (n : Notes). LeavesUnkept opening s (notes_of seats) (after_step s new pending) n) (sym (notes-return seats seat))
+        (λ tell. let old = (step.tells notes noted fit.notes).1 tell in (old, λ disk block none. (none, same old disk block none)))
+      where
+        same : AllTell s.memory.world (notes_of seats) → (disk block : ℕ) → IsUnkept (replay opening s.history) disk block → block_of (now disk) block ≡ block_of (was disk) block
+        same tell disk block none = elim (cases_eq disk sent.note.number) [
+          | inl e ↦ subst (λ (k : ℕ). block_of (now k) block ≡ block_of (was k) block) (sym e)
+              (ap (λ (c : Option (List (List ℕ))). block_of c block) here
+              ∙ other-block block (λ writes at. elim (cases_eq sent.note.name.object 64) [
+                | inl slot ↦ swap-far slot disk none.0 e
+                | inr far ↦ none.1 sent.note.name ((marks tell).places seat sent.note noted writes far ∙ (λ i. Some (sym e i, sym at i)))
+              ])
+              ∙ sym (ap (λ (c : Option (List (List ℕ))). block_of c block) there))
+          | inr ne ↦ ap (λ (c : Option (List (List ℕ))). block_of c block) (elsewhere disk ne)
+        ]
 
     pub marks-end : MarksOf opening (after_step s new pending) (with_sent seats seat None) (marks_ended m seat sent.note (length s.history) f)
     marks-end = subst (λ (n : Notes). AllTell new n → MarksFit opening s.history (content_of new.store n) n (marks_ended m seat sent.note (length s.history) f)) (sym (notes-return seats seat))

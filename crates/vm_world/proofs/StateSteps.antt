@@ -9,7 +9,7 @@ use Rattle.std.proofs.lemmas.List.Elements.{All-nil}
 use Rattle.flat_model.specs.vm_types.declared.call.Entry.{Entry}
 use Rattle.page_store.specs.block_device.DiskSeen.{DiskSeen}
 use Rattle.page_store.specs.page_hash.declared.PageName.{PageName}
-use Rattle.page_store.specs.Bays.{BaySeen, missing, home, out, bay_at}
+use Rattle.page_store.specs.Bays.{BaySeen, missing, home, out, bay_at, block_of}
 use Rattle.page_store.specs.Flight.{FlightSeen, Progress, fresh, done, failed}
 use Rattle.page_store.specs.Notes.{Note, Notes, with_note}
 use Rattle.page_store.specs.Value.{content_of, content_in_bay}
@@ -34,7 +34,7 @@ use Rattle.vm_world.specs.NotesFit.{NotesFit}
 use Rattle.vm_world.specs.Plans.{CanRunPlan, MayMeetFault}
 use Rattle.vm_world.specs.State.{KernelState, Seats, Sent, Caller, KeptPlan, notes_of, with_sent, fixed_of, seat_of}
 use Rattle.vm_world.specs.StateFits.{StateFits, CallerFits, PlanFits}
-use Rattle.vm_world.specs.Events.{IsEvent, CanTry}
+use Rattle.vm_world.specs.Events.{IsEvent, IsUnkept, LeavesUnkept, CanTry}
 use Rattle.vm_world.specs.StateMarks.{PagesFit}
 use Rattle.vm_world.specs.StateSteps.{after_step, after_leaving, after_return, PendsTails, ComesBack, StateRule}
 use Rattle.vm_world.specs.WorldSteps.{Trip, stays, leaves, returns, HasTrip, notes_after, WorldStep, tails_lost}
@@ -46,7 +46,8 @@ use Rattle.vm_world.proofs.FrameRule.{frame-flat}
 use Rattle.vm_world.proofs.FlatWhole.{some-inj}
 use Rattle.vm_world.proofs.Callers.{caller-kept, same-modes}
 use Rattle.vm_world.proofs.MayFails.{alive-flat}
-use Rattle.vm_world.proofs.Moving.{performed-tells, state_marks_rule}
+use Rattle.vm_world.proofs.Contents.{content-leaves}
+use Rattle.vm_world.proofs.Moving.{performed-tells, state_marks_rule, unkept-end}
 use Rattle.vm_world.proofs.Failed.{state_failures_rule}
 use Rattle.vm_world.proofs.PageNames.{not-slot}
 
@@ -84,6 +85,14 @@ pub disks-still : (s t : KernelState) (seat : ℕ) (sent : Option Sent) → t.me
     → SameDisks s.memory.world.store.bays (notes_of seats) t.memory.world.store.bays (notes_of (with_sent seats seat sent))
 disks-still s t seat sent bays seats is number =
     ap (λ (x : Seats). disk_there t x number) (same-seats seats seat sent is) ∙ ap (λ (b : List BaySeen). seen_in disk_fixed (bay_at b number) (notes_of seats)) bays
+
+-- .. and what no file keeps was kept by none before
+pub unkept-still : (opening : Flat) (s t : KernelState) (seat : ℕ) (sent : Option Sent) → t.memory.world.store.bays ≡ s.memory.world.store.bays → (seats : Seats) → seats seat ≡ sent
+    → (AllTell t.memory.world (notes_of seats) → AllTell s.memory.world (notes_of seats)) → ((disk block : ℕ) → IsUnkept (replay opening t.history) disk block → IsUnkept (replay opening s.history) disk block)
+    → LeavesUnkept opening s (notes_of seats) t (notes_of (with_sent seats seat sent))
+unkept-still opening s t seat sent bays seats is tells before =
+    subst (λ (x : Seats). LeavesUnkept opening s (notes_of seats) t (notes_of x)) (sym (same-seats seats seat sent is))
+    (λ tell. (tells tell, λ disk block none. (before disk block none, ap (λ (b : List BaySeen). block_of (content_in_bay (bay_at b disk) (notes_of seats)) block) bays)))
 
 module _ (s : KernelState) (new : World) (trip : Trip) (cut : PageName → Bool) (pending : ℕ) (step : WorldStep s.memory.world new s.memory.spaces trip cut) (tails : PendsTails s.memory.world cut s.pending pending) where
   fixed-same : fixed_of (after_step s new pending) ≡ fixed_of s
@@ -175,6 +184,7 @@ rule-calm s new cut pending seat sent step tails = record {
   disks = λ opening seats is fit. disks-still s (after_step s new pending) seat sent step.bays seats is;
   grown = no-entries s.history seat;
   follows = λ opening was. follows-kept opening s new pending step.tables was;
+  unkept = λ opening seats is fit. unkept-still opening s (after_step s new pending) seat sent step.bays seats is (λ tell. (step.tells (notes_of seats) tt fit.notes).1 tell) (λ disk block none. none);
 }
 
 -- A PLAN IS KEPT.
@@ -186,6 +196,8 @@ rule-plans s new cut pending kept step tails runs seated may = record {
   disks = λ opening seats is fit. disks-still s (record (after_step s new pending) { plan = Some kept }) kept.seat None step.bays seats is;
   grown = no-entries s.history kept.seat;
   follows = λ opening was. let f = follows-kept opening s new pending step.tables was in record { shape = f.shape; refusals = f.refusals };
+  unkept = λ opening seats is fit.
+      unkept-still opening s (record (after_step s new pending) { plan = Some kept }) kept.seat None step.bays seats is (λ tell. (step.tells (notes_of seats) tt fit.notes).1 tell) (λ disk block none. none);
 }
   where
     caller : (notes : Notes) (of : Caller) → kept.of ≡ Some of → CallerFits (flat_memory (record s.memory { world = new }) s.born notes) s.history s.entries kept.seat of
@@ -280,6 +292,17 @@ rule-begins s new cut pending seat sent kept step tails plan mine of_is sends = 
       ∙ seen-leaves disk_fixed s.memory.world.store.bays new.store.bays (notes_of seats) seat sent.note idle (noted opening seats fit) step.bays.0 step.bays.1 number;
   grown = no-entries s.history seat;
   follows = λ opening was. let f = follows-kept opening s new pending step.tables was in record { shape = f.shape; refusals = f.refusals };
+  unkept = λ opening seats is fit.
+      let idle : notes_of seats seat ≡ None = ap (option_map (λ (x : Sent). x.note)) is in
+      subst (λ (n : Notes). LeavesUnkept opening s (notes_of seats) (after_leaving s new pending seat sent.note) n) (sym (notes-with seats seat (Some sent)))
+      (λ tell. (
+        (step.tells (notes_of seats) idle fit.notes).1 tell,
+        λ disk block none. (
+          none,
+          ap (λ (c : Option (List (List ℕ))). block_of c block)
+              (content-leaves s.memory.world.store.bays new.store.bays (notes_of seats) seat sent.note idle (noted opening seats fit) step.bays.0 step.bays.1 (home-below s.memory.world.store.bays sent.note.number sent.note.disk step.bays.0) disk),
+        ),
+      ));
 }
   where
     noted : (opening : Flat) (seats : Seats) → StateFits opening s seats → (k t : ℕ) → bay_at s.memory.world.store.bays k ≡ out t → IsSome (notes_of seats t)
@@ -415,6 +438,7 @@ rule-ends s new cut pending seat sent f step tails comes = record {
       ∙ seen-returns disk_fixed s.memory.world.store.bays new.store.bays (notes_of seats) seat sent.note step.bays.1.0 noted (λ k at. one-disk opening seats fit noted k at) step.bays.0 step.bays.1.1 unchanged number;
   grown = no-entries s.history seat;
   follows = λ opening was. let f = follows-kept opening s new pending step.tables was in record { shape = f.shape; refusals = f.refusals };
+  unkept = λ opening seats is fit. unkept-end opening s new cut pending seat seats sent s.marks (pages-fit opening s seats fit) fit.marks f is step comes;
 }
   where
     home-inj : (x y : DiskSeen) → home x ≡ home y → x ≡ y
