@@ -17,6 +17,7 @@ use crate::answers::Answer;
 use seg_vn::{Call, Disk, Ranges, Spaces, VnSeg, World, read, write};
 
 /// A load by a process from its space.
+#[inline(always)]
 fn load<D: Disk>(
     world: &mut World<D>,
     space: &Ranges<VnSeg>,
@@ -43,6 +44,7 @@ fn load<D: Disk>(
 }
 
 /// A store by a process to its space.
+#[inline(always)]
 fn store<D: Disk>(
     world: &mut World<D>,
     space: &Ranges<VnSeg>,
@@ -74,7 +76,9 @@ fn store<D: Disk>(
 }
 
 /// What is answered to a load or a store of a process that is alive. Takes no memory and makes no disk call. A hit takes
-/// constant expected time beside the look for the segment, which takes the logarithm of their number.
+/// constant expected time beside the look for the segment, which takes the logarithm of their number. Inline, so that a hit makes no
+/// call.
+#[inline(always)]
 pub fn answer<D: Disk>(
     world: &mut World<D>,
     spaces: &mut Spaces,
