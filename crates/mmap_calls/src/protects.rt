@@ -13,41 +13,46 @@ use crate::cuts::cut_ends;
 use seg_vn::{Disk, Errno, Prot, Ranges, Reply, VnSeg, World, is_range, page_of, pages_in};
 use std::alloc::AllocError;
 
-/// Whether each page of a range is mapped. Time: the logarithm of the number of pieces for each piece of the range.
+/// Whether each page of a range is mapped. Time: the logarithm of the number of pieces, and the pieces of the
+/// range.
 pub(crate) fn are_mapped(space: &Ranges<VnSeg>, first: u32, end: u32) -> bool
     ensures { IsTrue result ↔ AreMapped space.now.parts first end }
 {
     let mut page = first;
+    let mut near = 0;
     while page < end {
-        let Some((begin, pages, _segment)) = space.find(page) else {
+        let Some((place, begin, pages, _segment)) = space.find_near(near, page) else {
             return false;
         };
+        near = place + 1;
         page = begin + pages;
     }
     true
 }
 
-// Whether each page of a range that is mapped may have a protection. Time: the logarithm of the number of pieces for each piece
+// Whether each page of a range that is mapped may have a protection. Time: the logarithm of the number of pieces, and the pieces
 // of the range.
 fn may_have(space: &Ranges<VnSeg>, first: u32, end: u32, prot: Prot) -> bool
     requires mapped { AreMapped space.now.parts first end }
     ensures { IsTrue result ↔ MayHave space.now.parts first end prot }
 {
     let mut page = first;
+    let mut near = 0;
     while page < end {
-        let Some((begin, pages, segment)) = space.find(page) else {
+        let Some((place, begin, pages, segment)) = space.find_near(near, page) else {
             unreachable!();
         };
         if !segment.check_prot(prot) {
             return false;
         }
+        near = place + 1;
         page = begin + pages;
     }
     true
 }
 
 // Gives the pages of a range another protection; no piece goes across an end of it. Takes no memory. Time: the logarithm of the
-// number of pieces for each piece of the range, and the pages that may not be written then.
+// number of pieces, the pieces of the range, and the pages that may not be written then.
 fn set_range<D: Disk>(
     world: &mut World<D>,
     space: &mut Ranges<VnSeg>,
@@ -69,20 +74,22 @@ fn set_range<D: Disk>(
     ensures modified { ModifiesNone (world_seen world.old) (world_seen world.new) }
 {
     let mut page = first;
+    let mut near = 0;
     while page < end {
-        let Some((_begin, pages, _segment)) = space.find(page) else {
+        let Some((place, _begin, pages, _segment)) = space.find_near(near, page) else {
             unreachable!();
         };
-        let Some(segment) = space.find_mut(page) else {
+        let Some(segment) = space.find_mut_near(place, page) else {
             unreachable!();
         };
         segment.set_prot(world, process, page, prot);
+        near = place + 1;
         page += pages;
     }
 }
 
 /// The reply to a Protect, which is done or refused. Whether it is refused is decided before a piece is cut. The only error is want
-/// of memory, or of numbers; then nothing changed. Time: the logarithm of the number of pieces for each piece of the range, the
+/// of memory, or of numbers; then nothing changed. Time: the logarithm of the number of pieces, the pieces of the range, the
 /// pages that may not be written then, and for each end of the range at which a piece is cut, the number of pieces and the places
 /// that go over.
 pub(crate) fn protect<D: Disk>(

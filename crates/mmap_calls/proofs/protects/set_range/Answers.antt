@@ -16,7 +16,7 @@ use Rattle.mmap_calls.proofs.CutPlaces.{same-piece}
 use Rattle.mmap_calls.proofs.RangeProtections.{Ahead, ahead, bounds-written, has-part, none-lay, part-here, range-next, range-none}
 use Rattle.mmap_calls.proofs.Replaced.{fits-after}
 use Rattle.mmap_calls.proofs.protects.set_range.Given.{Over}
-use Rattle.mmap_calls.proofs.protects.set_range.Goals.{In-Some-find_mut}
+use Rattle.mmap_calls.proofs.protects.set_range.Goals.{In-Some-find_mut_near}
 use Rattle.mmap_calls.proofs.protects.set_range.Goals as goal
 
 pub loop-page-init : goal.loop-page-init
@@ -31,28 +31,28 @@ loop-page-init g c = record {
 }
 
 -- the part that has the page
-abbrev the_part : (g : Over) (c : In-Some-find_mut g) → Part Segment
+abbrev the_part : (g : Over) (c : In-Some-find_mut_near g) → Part Segment
 the_part g c = part c.in-Some._begin c.in-Some.pages c.in-Some._segment.now
 
-next : (g : Over) (c : In-Some-find_mut g) → Ahead c.args.space.now.parts c.loop-page.page c.args.end c.args.prot (the_part g c)
+next : (g : Over) (c : In-Some-find_mut_near g) → Ahead c.args.space.now.parts c.loop-page.page c.args.end c.args.prot (the_part g c)
 next g c =
     let inv = c.loop-page.invariant in
     let page : ℕ = c.loop-page.page in
     ahead c.args.space.now.parts c.loop-page.space.parts page c.args.end c.args.prot (the_part g c) (c.requires.fits.1.memory.segments.ordered c.args.process c.args.space.now.parts c.requires.fits.1.here) (inv.same page) c.in-Some.ensures.found inv.starts c.loop-page-test.true c.requires.high
     (c.requires.may page inv.low c.loop-page-test.true)
 
-lent : (g : Over) (c : In-Some-find_mut g) → c.in-Some._segment.now ≡ c.in-Some-find_mut.segment.now
-lent g c = same-piece c.loop-page.space.parts c.loop-page.page (the_part g c) c.in-Some-find_mut.segment.now c.in-Some.ensures.found c.in-Some-find_mut.ensures.found
+lent : (g : Over) (c : In-Some-find_mut_near g) → c.in-Some._segment.now ≡ c.in-Some-find_mut_near.segment.now
+lent g c = same-piece c.loop-page.space.parts c.loop-page.page (the_part g c) c.in-Some-find_mut_near.segment.now c.in-Some.ensures.found c.in-Some-find_mut_near.ensures.found
 
 -- the process is alive with the parts so far
-so-far : (g : Over) (c : In-Some-find_mut g) (spaces : Spaces) → SpaceFits (world_seen c.args.world.now) c.args.world.now.zeros spaces c.args.process c.args.space.now.parts
+so-far : (g : Over) (c : In-Some-find_mut_near g) (spaces : Spaces) → SpaceFits (world_seen c.args.world.now) c.args.world.now.zeros spaces c.args.process c.args.space.now.parts
     → SpaceFits (world_seen c.loop-page.world) c.loop-page.world.zeros (finite.insert spaces c.args.process c.loop-page.space.parts) c.args.process c.loop-page.space.parts
 so-far g c spaces fits = fits-after c.args.process (memory c.args.world.now spaces) (world_seen c.loop-page.world) spaces c.loop-page.space.parts c.loop-page.world.zeros _ (c.loop-page.invariant.changes spaces fits)
 
-abbrev at-page : (g : Over) (c : In-Some-find_mut g) (spaces : Spaces) → SpaceFits (world_seen c.args.world.now) c.args.world.now.zeros spaces c.args.process c.args.space.now.parts
-    → IsPartAt (world_seen c.loop-page.world) (finite.insert spaces c.args.process c.loop-page.space.parts) c.args.process c.loop-page.page c.in-Some-find_mut.segment.now
+abbrev at-page : (g : Over) (c : In-Some-find_mut_near g) (spaces : Spaces) → SpaceFits (world_seen c.args.world.now) c.args.world.now.zeros spaces c.args.process c.args.space.now.parts
+    → IsPartAt (world_seen c.loop-page.world) (finite.insert spaces c.args.process c.loop-page.space.parts) c.args.process c.loop-page.page c.in-Some-find_mut_near.segment.now
 at-page g c spaces fits =
-    part-here (world_seen c.loop-page.world) c.loop-page.world.zeros (finite.insert spaces c.args.process c.loop-page.space.parts) c.args.process c.loop-page.space.parts c.loop-page.page (the_part g c) c.in-Some-find_mut.segment.now (so-far g c spaces fits) c.in-Some.ensures.found
+    part-here (world_seen c.loop-page.world) c.loop-page.world.zeros (finite.insert spaces c.args.process c.loop-page.space.parts) c.args.process c.loop-page.space.parts c.loop-page.page (the_part g c) c.in-Some-find_mut_near.segment.now (so-far g c spaces fits) c.in-Some.ensures.found
     (next g c).first (lent g c)
 
 pub unreachable-requires : goal.unreachable-requires
@@ -62,17 +62,17 @@ unreachable-requires g c =
 
 pub set_prot-requires-clause-within : goal.set_prot-requires-clause-within
 set_prot-requires-clause-within g c =
-    let d = (goal.at.set_prot-requires-clause-within g c).In-Some-find_mut in
+    let d = (goal.at.set_prot-requires-clause-within g c).In-Some-find_mut_near in
     ap (λ (s : Segment). is_within c.args.prot s.max) (sym (lent g d)) ∙ (next g d).within
 
 pub set_prot-requires-clause-part : goal.set_prot-requires-clause-part
 set_prot-requires-clause-part g c =
-    let d = (goal.at.set_prot-requires-clause-part g c).In-Some-find_mut in
+    let d = (goal.at.set_prot-requires-clause-part g c).In-Some-find_mut_near in
     (finite.insert c.requires.fits.0 c.args.process c.loop-page.space.parts, at-page g d c.requires.fits.0 c.requires.fits.1)
 
 pub overflow_add-page : goal.overflow_add-page
 overflow_add-page g c =
-    let d = (goal.at.overflow_add-page g c).In-Some-find_mut in
+    let d = (goal.at.overflow_add-page g c).In-Some-find_mut_near in
     let n = next g d in
     let first = n.first in
     let ends = n.ends in
@@ -80,7 +80,7 @@ overflow_add-page g c =
 
 pub loop-page-preserved : goal.loop-page-preserved
 loop-page-preserved g c =
-    let d = (goal.at.loop-page-preserved g c).In-Some-find_mut in
+    let d = (goal.at.loop-page-preserved g c).In-Some-find_mut_near in
     let inv = c.loop-page.invariant in
     let p : ℕ = c.args.process in
     let page : ℕ = c.loop-page.page in
@@ -103,7 +103,7 @@ loop-page-preserved g c =
           let m = memory c.args.world.now spaces in
           let before = so-far g d spaces fits in
           let part = at-page g d spaces fits in
-          let size = pages-are (world_seen c.loop-page.world) (finite.insert spaces p now) p page c.in-Some-find_mut.segment.now part in
+          let size = pages-are (world_seen c.loop-page.world) (finite.insert spaces p now) p page c.in-Some-find_mut_near.segment.now part in
           let step = c.set_prot.ensures.changes (finite.insert spaces p now) part before.known in
           range-next p m (world_seen c.loop-page.world) (world_seen c.set_prot.new.world) c.loop-page.world.zeros c.loop-page.world.zeros c.set_prot.new.world.zeros spaces now (with_new_piece page w now) c.args.first page c.in-Some.pages c.args.prot low zeros
           (inv.changes spaces fits)
@@ -114,7 +114,7 @@ loop-page-preserved g c =
 
 pub loop-page-smaller : goal.loop-page-smaller
 loop-page-smaller g c =
-    let n = next g (goal.at.loop-page-smaller g c).In-Some-find_mut in
+    let n = next g (goal.at.loop-page-smaller g c).In-Some-find_mut_near in
     let first = n.first in
     let some = n.some in
     let test = c.loop-page-test.true in
