@@ -8,3 +8,4 @@ pub mod Longer
 pub mod Shorter
 pub mod VoidedPages
 pub mod Served
+pub mod Frames

@@ -2,6 +2,7 @@
 #![tactic(auto)]
 
 mod bytes;
+mod frames;
 mod given;
 mod laws;
 mod lengths;

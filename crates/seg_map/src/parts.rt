@@ -1,5 +1,6 @@
 //! Parts of reads of files: the bytes of one line of 64.
 ghost use Rattle.std.specs.Prelude.{◌≡◌, ◌≤◌, ◌+◌, ℕ, take, drop, None};
+ghost use Rattle.seg_ops.specs.page_hash.declared.PageName.{PageName};
 ghost use Rattle.seg_ops.specs.page_store.Notes.{Notes};
 ghost use Rattle.seg_ops.specs.page_store.Seen.{residence};
 ghost use Rattle.seg_ops.specs.page_store.Table.{PlaceTable};
@@ -11,7 +12,7 @@ ghost use Rattle.seg_ops.specs.vm_world.Segments.{Spaces};
 ghost use Rattle.seg_ops.specs.vm_world.Words.{memory, Fits, IsFit, IsKnown, OneIsHome, OnlyFrames};
 ghost use Rattle.seg_map.specs.Served.{ServesBytes};
 
-use home_pages::bring_page;
+use crate::frames::bring_frame;
 use seg_ops::{Disk, Line, PAGE_SIZE, PageName, Residence, Wants, World, line_rest};
 
 /// How many bytes a part of a read gets of a file of so many: what it asks for, but none past its line and the file's end.
@@ -24,22 +25,23 @@ fn part_count(bytes: u32, offset: u32, asked: u32) -> u32
         .min(bytes.saturating_sub(offset))
 }
 
-/// So many bytes of a page that is home, from one of its bytes on.
-fn line_of<D: Disk>(world: &World<D>, name: PageName, at: u32, count: u32) -> Line
-    requires home { (frame : ℕ) × (residence world.now.store name ≡ Residence.Home frame) }
+/// So many bytes of the page that is home in a frame, from one of its bytes on.
+fn line_of<D: Disk>(world: &World<D>, frame: u32, at: u32, count: u32) -> Line
+    requires home { (name : PageName) × (residence world.now.store name ≡ Residence.Home frame) }
     requires short { count ≤ 64 }
     requires within { at + count ≤ 4096 }
-    ensures { (notes : Notes) (table : PlaceTable)
+    ensures { (name : PageName) → residence world.now.store name ≡ Residence.Home frame
+        → (notes : Notes) (table : PlaceTable)
         → result ≡ take count (drop at (value world.now.store notes table name)) }
 {
-    let page = world.store.bytes(name);
+    let page = world.store.frame_bytes(frame);
     let end = (at + count) as usize;
     Line::new(&page[at as usize..end])
 }
 
 /// A part of a read: the bytes of a file from an offset on, as many as are asked for, but none past their line of 64 and the file's
-/// end. Their page comes home first, or it is said what that needs; past the end nothing is looked at. Time: two looks for the
-/// page, and the bytes.
+/// end. Their page comes home first, or it is said what that needs; past the end nothing is looked at. Time: one look for the
+/// page where it is home, and the bytes.
 pub fn read_line<D: Disk>(
     world: &mut World<D>,
     file: u32,
@@ -64,6 +66,6 @@ pub fn read_line<D: Disk>(
         object: file,
         page: offset / PAGE_SIZE,
     };
-    bring_page(world, name)?;
-    Ok(line_of(world, name, offset % PAGE_SIZE, count))
+    let frame = bring_frame(world, name)?;
+    Ok(line_of(world, frame, offset % PAGE_SIZE, count))
 }

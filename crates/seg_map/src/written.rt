@@ -13,24 +13,26 @@ ghost use Rattle.seg_ops.specs.vm_world.Serving.{ModifiesOnly};
 ghost use Rattle.seg_ops.specs.vm_world.Words.{memory, Fits, IsFit, IsKnown, OneIsHome, TwoAreHome, OnlyFrames, OnlyStore};
 ghost use Rattle.seg_ops.specs.vm_world.World.{world_seen, file_name};
 ghost use Rattle.seg_ops.specs.Rooms.{HasRoomUnless, MakesRoom};
-ghost use Rattle.seg_map.specs.Longer.{IsHomeUnlisted, IsLastReady};
+ghost use Rattle.seg_map.specs.Longer.{IsLastReady};
 ghost use Rattle.seg_map.specs.Puts.{with_bytes_in};
 ghost use Rattle.seg_map.specs.Served.{ServesPart};
 
 use crate::bytes::put;
+use crate::frames::{bring_frame, take_if_listed};
 use crate::longer::make_longer;
 use crate::ready::ready_last;
-use home_pages::bring_page;
 use seg_ops::{
     Disk, Line, PAGE_SIZE, PageName, Plan, Residence, Wants, World, ask, fill_page, free_next,
-    make_room, make_room_beside, pages_in, take_back,
+    make_room, make_room_beside, pages_in,
 };
 
-/// Puts the bytes of a part into their page, which is home on no list.
-fn put_line<D: Disk>(world: &mut World<D>, file: u32, offset: u32, line: &Line)
+/// Puts the bytes of a part into their page, which is home in this frame, on no list.
+fn put_line<D: Disk>(world: &mut World<D>, file: u32, offset: u32, frame: u32, line: &Line)
     requires line { IsInOneLine offset line.now }
     requires file { file < length world.old.files.files }
-    requires home { IsHomeUnlisted (world_seen world.old) (file_name file (page offset)) }
+    requires home { residence world.old.store (file_name file (page offset))
+        ≡ Residence.Home frame }
+    requires unlisted { ¬ IsListedFrame world.old.store frame }
     requires fits { IsFit world.old }
     // The file has the bytes in flat memory, and no other page becomes modified.
     ensures puts { (spaces : Spaces) → Fits world.old spaces
@@ -44,9 +46,6 @@ fn put_line<D: Disk>(world: &mut World<D>, file: u32, offset: u32, line: &Line)
     ensures names { world.new.store.names ≡ world.old.store.names }
 {
     let page = offset / PAGE_SIZE;
-    let Residence::Home(frame) = world.store.resident(PageName { object: file, page }) else {
-        unreachable!();
-    };
     put(world, file, page, frame, offset % PAGE_SIZE, line.bytes());
 }
 
@@ -72,9 +71,9 @@ fn write_within<D: Disk>(
         object: file,
         page: offset / PAGE_SIZE,
     };
-    bring_page(world, name)?;
-    take_back(world, name);
-    put_line(world, file, offset, line);
+    let frame = bring_frame(world, name)?;
+    take_if_listed(world, name, frame);
+    put_line(world, file, offset, frame, line);
     Ok(())
 }
 
@@ -108,10 +107,10 @@ fn write_last<D: Disk>(
         object: file,
         page: offset / PAGE_SIZE,
     };
-    bring_page(world, name)?;
-    take_back(world, name);
+    let frame = bring_frame(world, name)?;
+    take_if_listed(world, name, frame);
     make_longer(world, file, end);
-    put_line(world, file, offset, line);
+    put_line(world, file, offset, frame, line);
     Ok(())
 }
 
@@ -168,8 +167,12 @@ fn write_new<D: Disk>(
     free_next(world);
     make_longer(world, file, end);
     let page = offset / PAGE_SIZE;
-    fill_page(world, PageName { object: file, page });
-    put_line(world, file, offset, line);
+    let name = PageName { object: file, page };
+    fill_page(world, name);
+    let Residence::Home(frame) = world.store.resident(name) else {
+        unreachable!();
+    };
+    put_line(world, file, offset, frame, line);
     Ok(())
 }
 
@@ -216,7 +219,8 @@ fn end_of(offset: u32, count: u32) -> u32
 
 /// A part of a write: its bytes are put into their page, which comes home first. Where it ends past the file's end the file gets longer
 /// first, on the blocks that it needs: its old last page comes home before that, where it has a tail and may hold anything there, and
-/// a frame is had for a page that is new. Time: three looks for the page, the bytes, and the pages that the file comes to have.
+/// a frame is had for a page that is new. Time: the bytes, and one look for their page where it is home on no list and the file gets no
+/// longer; else five looks at most, and the pages that the file comes to have.
 pub fn write_line<D: Disk>(
     world: &mut World<D>,
     file: u32,

@@ -1,18 +1,10 @@
-use Rattle.std.proofs.Common.{◌≡◌, ◌+◌, ◌%◌, ◌≤◌, ℕ, List, length, sym, ap, ◌∙◌, subst}
-use Rattle.seg_ops.specs.page_store.Seen.{IsListedFrame, residence}
-use Rattle.seg_ops.specs.page_store.declared.residence.Residence.TheVariants.{Home}
-use Rattle.seg_ops.specs.vm_types.declared.call.Reply.TheVariants as reply
+use Rattle.std.proofs.Common.{◌+◌, ◌%◌, ◌≤◌, ℕ, List, length, sym, ap, subst}
 use Rattle.seg_ops.specs.flat_model.Words.{page}
 use Rattle.seg_ops.proofs.flat_model.Lines.{line-in_page}
 use Rattle.seg_ops.specs.vm_world.FileSteps.{ChangesFile}
 use Rattle.seg_ops.specs.vm_world.Words.{memory}
 use Rattle.seg_map.specs.Puts.{with_bytes_in}
 use Rattle.seg_map.proofs.written.put_line.Goals as goal
-
-pub put-requires-clause-unlisted : goal.put-requires-clause-unlisted
-put-requires-clause-unlisted g c =
-    let h = c.requires.home in
-    subst (λ (k : ℕ). ¬ IsListedFrame c.args.world.now.store k) (let z : Home h.0 ≡ Home c.in-Home.frame = sym h.1 ∙ sym c.in-Home.ensures.residence in cc) h.2
 
 pub put-requires-clause-within : goal.put-requires-clause-within
 put-requires-clause-within g c =

@@ -3,7 +3,7 @@ use Rattle.std.proofs.lemmas.Bool.{eqb-true}
 use Rattle.std.specs.Prelude.{IsTrue, IsSome, is_some, IfSome}
 use Rattle.seg_ops.specs.page_hash.Names.{is_name}
 use Rattle.seg_ops.specs.page_hash.declared.PageName.{PageName}
-use Rattle.seg_ops.specs.page_store.Seen.{residence}
+use Rattle.seg_ops.specs.page_store.Seen.{IsListedFrame, residence}
 use Rattle.seg_ops.specs.page_store.Steps.{next_name}
 use Rattle.seg_ops.specs.page_store.declared.residence.Residence.TheVariants.{Home}
 use Rattle.seg_ops.specs.vm_types.declared.call.Call.TheVariants.{Write}
@@ -17,21 +17,20 @@ use Rattle.seg_ops.specs.vm_world.Segments.{Spaces}
 use Rattle.seg_ops.specs.vm_world.Serving.{ModifiesOnly}
 use Rattle.seg_ops.specs.vm_world.StateSteps.{PendsTails}
 use Rattle.seg_ops.specs.vm_world.Wants.{IsGapPage}
-use Rattle.seg_ops.specs.vm_world.Words.{memory}
 use Rattle.seg_ops.specs.vm_world.World.{world_seen, file_name}
 use Rattle.seg_ops.specs.vm_world.WorldSteps.{WorldStep, stays}
 use Rattle.seg_ops.proofs.Disks.{dirty-exists}
 use Rattle.seg_ops.proofs.NewlyModified.{none-of}
 use Rattle.seg_ops.proofs.StillSteps.{memory_of}
 use Rattle.seg_ops.proofs.vm_world.FileCalls.{file_calls_law}
-use Rattle.seg_map.specs.Longer.{GrowsInto, IsLastReady}
+use Rattle.seg_map.specs.Longer.{GrowsInto, IsHomeUnlisted, IsLastReady}
 use Rattle.seg_map.specs.Served.{ServesReply, ServesWant}
 use Rattle.seg_map.proofs.ReadParts.{below-exists}
 use Rattle.seg_map.proofs.Readies.{unpushed-is}
 use Rattle.seg_map.proofs.WriteParts.{frame-waits, pends-on, served-as, writes-new}
 use Rattle.seg_map.proofs.NewPages.{IsLonger, absent-old, grows-there, last-freed, longer-is, taken}
 use Rattle.seg_map.proofs.written.write_new.Given.{Over}
-use Rattle.seg_map.proofs.written.write_new.Goals.{After-make_room_behind, After-free_next, After-make_longer}
+use Rattle.seg_map.proofs.written.write_new.Goals.{After-make_room_behind, After-free_next, After-make_longer, After-fill_page}
 use Rattle.seg_map.proofs.written.write_new.Goals as goal
 
 -- memory fits as room is made, as the next frame is freed, and as the file is longer
@@ -120,12 +119,18 @@ pub put_line-requires-clause-file : goal.put_line-requires-clause-file
 put_line-requires-clause-file g c =
     subst (λ (s : FilesSeen). c.args.file < length s.files) (sym (ap (λ v. v.files) c.fill_page.ensures.rest)) (longer g (goal.at.put_line-requires-clause-file g c).After-make_longer).there
 
-pub put_line-requires-clause-home : goal.put_line-requires-clause-home
-put_line-requires-clause-home g c =
-    let l = longer g (goal.at.put_line-requires-clause-home g c).After-make_longer in
+-- the page is home then in a frame on no list
+at-home : (g : Over) (c : After-fill_page g) → IsHomeUnlisted (world_seen c.fill_page.new.world) (file_name c.args.file (page c.args.offset))
+at-home g c =
+    let l = longer g (goal.at.After-fill_page g c).After-make_longer in
     let t = taken (world_seen c.make_room_behind.new.world) (world_seen c.make_longer.new.world) (world_seen c.fill_page.new.world) (file_name c.args.file (page c.args.offset)) l.next c.in_default.ensures.room c.fill_page.ensures.home
     c.fill_page.ensures.unlisted in
     (t.0, t.2, t.3)
+
+pub put_line-requires-clause-unlisted : goal.put_line-requires-clause-unlisted
+put_line-requires-clause-unlisted g c =
+    let h = at-home g (goal.at.put_line-requires-clause-unlisted g c).After-fill_page in
+    subst (λ (k : ℕ). ¬ IsListedFrame c.fill_page.new.world.store k) (let z : Home h.0 ≡ Home c.in-Home.frame = sym h.1 ∙ sym c.in-Home.ensures.residence in cc) h.2
 
 pub put_line-requires-clause-fits : goal.put_line-requires-clause-fits
 put_line-requires-clause-fits g c =
