@@ -2,6 +2,8 @@
 #![tactic(auto)]
 
 #[cfg(test)]
+mod chance_tests;
+#[cfg(test)]
 mod entry_tests;
 #[cfg(test)]
 mod fault_tests;

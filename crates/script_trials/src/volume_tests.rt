@@ -6,7 +6,7 @@ use std::test::Fail;
 use volume_format::{Extent, Extents, FileInfo, FileName, Table, decode, encode};
 
 // A number at a place of a block.
-type Word = (usize, u32);
+pub(crate) type Word = (usize, u32);
 
 // The first words of a table's block.
 const MAGIC: Word = (0, 0x53554e56);
@@ -16,7 +16,7 @@ const SECOND: Word = (4, 0x4d564f4c);
 const NONE: Word = (4096, 0);
 
 // The file `a` of 5 bytes in blocks 1 and 2, and `b` of 8192 bytes in blocks 3 and 5.
-const TWO_FILES: [Word; 20] = [
+pub(crate) const TWO_FILES: [Word; 20] = [
     MAGIC,
     SECOND,
     (8, 2),
@@ -57,7 +57,7 @@ const TWO_OLD_FILES: [Word; 14] = [
     (88, 1),
 ];
 
-fn put_words(block: &mut [u8], words: &[Word])
+pub(crate) fn put_words(block: &mut [u8], words: &[Word])
     requires { length block.old ≡ 4096 }
 {
     for &(at, word) in words {
