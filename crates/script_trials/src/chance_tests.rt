@@ -4,7 +4,7 @@ ghost use Rattle.std.specs.Prelude.{◌≡◌, ◌<◌, ◌≤◌, length};
 use crate::volume_tests::{TWO_FILES, put_words};
 use std::alloc::{AllocError, Global};
 use std::test::Fail;
-use vm_script::{broken_rule, parse};
+use vm_script::{ScriptKind, broken_rule, parse};
 use volume_format::{decode, encode};
 
 // Numbers by chance: a linear congruential generator.
@@ -61,7 +61,39 @@ fn changed(alloc: Global, seed: u32) -> Result<Vec<u8>, AllocError> {
     Ok(text)
 }
 
-// Whether the script is read and its first broken rule is one that there is, or its fault names one of its lines or the one behind them.
+// How many lines there are; the last one may lack its line feed.
+fn count_lines(text: &[u8]) -> usize {
+    let feeds = text.iter().filter(|byte| **byte == b'\n').count();
+    match text.last() {
+        None | Some(b'\n') => feeds,
+        Some(_) => feeds + 1,
+    }
+}
+
+// The lines before this one, which are counted from 1.
+fn before_line(text: &[u8], line: u32) -> &[u8] {
+    let mut left = line;
+    for (place, byte) in text.iter().enumerate() {
+        if left <= 1 {
+            return &text[..place];
+        }
+        if *byte == b'\n' {
+            left -= 1;
+        }
+    }
+    text
+}
+
+// Whether the lines before a bad one have no fault but that a block is open at their end.
+fn is_first(alloc: Global, before: &[u8], line: u32) -> Result<bool, AllocError> {
+    match parse(alloc, before)? {
+        Ok(_) => Ok(true),
+        Err(fault) => Ok(fault.line == line && fault.kind == ScriptKind::Place),
+    }
+}
+
+// Whether the script is read and its first broken rule is one that there is; or its fault names one of its lines or, for a block
+// that is open at the end, the one behind them, and no line before it is bad.
 fn is_answered(alloc: Global, text: &[u8]) -> Result<bool, AllocError> {
     match parse(alloc, text)? {
         Ok(plan) => Ok(match broken_rule(&plan) {
@@ -69,15 +101,20 @@ fn is_answered(alloc: Global, text: &[u8]) -> Result<bool, AllocError> {
             Some(rule) => (rule >= 1 && rule <= 8) || rule == 14,
         }),
         Err(fault) => {
-            let lines = text.iter().filter(|byte| **byte == b'\n').count();
-            Ok(fault.line as usize <= lines + 1)
+            let behind = count_lines(text) + 1;
+            let line = fault.line as usize;
+            let there = line < behind || (line == behind && fault.kind == ScriptKind::Place);
+            Ok(line >= 1 && there && is_first(alloc, before_line(text, fault.line), fault.line)?)
         }
     }
 }
 
+/// How many seeds of each kind the tests take.
+const SEEDS: u32 = 400;
+
 #[test]
 fn changed_scripts_are_read_or_refused(rt: HostRuntime) -> Result<(), Fail> {
-    for seed in 0..400 {
+    for seed in 0..SEEDS {
         let text = changed(rt.alloc(), seed)?;
         assert!(rt; is_answered(rt.alloc(), text.as_slice())?, "{seed}");
     }
@@ -135,7 +172,7 @@ fn is_its_own(alloc: Global, block: &[u8; 4096]) -> Result<bool, AllocError> {
 
 #[test]
 fn changed_tables_are_read_or_told(rt: HostRuntime) -> Result<(), Fail> {
-    for seed in 0..400 {
+    for seed in 0..SEEDS {
         assert!(rt; is_told(rt.alloc(), seed)?, "{seed}");
     }
     Ok(())
