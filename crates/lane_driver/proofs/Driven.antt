@@ -37,10 +37,6 @@ drives-fits [] s t lanes new opening seats drives own fits =
 drives-fits (n ∷ order) s t lanes new opening seats drives own fits =
     drives-fits order drives.0 t drives.1 new opening seats drives.3 (step-own n s drives.0 lanes drives.1 drives.2 own) (step-fits n s drives.0 lanes drives.1 opening seats drives.2 own fits)
 
-pub drives-own : (order : List ℕ) (s t : KernelState) (lanes new : List LaneSeen) → Drives order s t lanes new → HaveOwnSeats lanes → HaveOwnSeats new
-drives-own [] s t lanes new drives own = subst HaveOwnSeats (sym drives.1) own
-drives-own (n ∷ order) s t lanes new drives own = drives-own order drives.0 t drives.1 new drives.3 (step-own n s drives.0 lanes drives.1 drives.2 own)
-
 -- THE HISTORY
 pub drop-at : (xs : List Call) (n : ℕ) (x : Call) → slice_get xs n ≡ Some x → drop n xs ≡ x ∷ drop (suc n) xs
 drop-at [] n x at = absurd (let lt = slice_get_within [] n x at in omega (arith, lt))

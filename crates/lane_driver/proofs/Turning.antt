@@ -1,7 +1,7 @@
 -- THE TURN OF A LANE, by that for its next call.
 use Rattle.std.proofs.Common.{◌≡◌, ◌+◌, ◌-◌, ◌<◌, ◌≤◌, ℕ, suc, Bool, true, false, List, length, Option, Some, None, refl, sym, ap, ◌∙◌, subst, arith}
-use Rattle.std.specs.Prelude.{IfSome, option_map, slice_get, if◌then◌else◌}
-use Rattle.std.proofs.lemmas.Option.{slice_get_within, slice_get_past, slice_get-get_or}
+use Rattle.std.specs.Prelude.{IfSome, option_map, slice_get}
+use Rattle.std.proofs.lemmas.Option.{slice_get_past, slice_get-get_or}
 use Rattle.std.proofs.Math.ListN.{get_or}
 use Rattle.fault_entry.specs.page_store.Flight.{FlightSeen, fresh}
 use Rattle.fault_entry.specs.seg_vn.declared.attempt.Attempt.{Attempt}
@@ -58,20 +58,6 @@ call-turn s t lane call done out at turns event = record {
     by_flight : (o : Option FlightSeen) → TurnsCall s t lane.seat call o done out → TurnsBy o (Some call) s t lane (lane_after lane done out)
     by_flight (Some f) turns = (done, turns.0, ap (lane_after lane done) turns.1)
     by_flight None turns = (done, out, turns, refl)
-
--- WHAT HOLDS OF THE LANE then
-pub sound-after : (s t : KernelState) (lane : LaneSeen) (call : Call) (done : Bool) (out : Option FlightSeen) → next_call lane ≡ Some call → TurnsCall s t lane.seat call lane.flight done out
-    → IfSome out (λ f. (f.seat ≡ lane.seat) × (f.outcome ≡ fresh)) → IsSoundLane lane.seat lane.calls lane.done lane.flight → IsSoundLane lane.seat lane.calls (if done then suc lane.done else lane.done) out
-sound-after s t lane call done out at turns new sound = by_done done out (done-none s t lane.seat call lane.flight done out turns) new
-  where
-    within : lane.done < length lane.calls
-    within = slice_get_within lane.calls lane.done call at
-
-    by_done : (b : Bool) (o : Option FlightSeen) → (b ≡ true → o ≡ None) → IfSome o (λ f. (f.seat ≡ lane.seat) × (f.outcome ≡ fresh)) → IsSoundLane lane.seat lane.calls (if b then suc lane.done else lane.done) o
-    by_done true None none new = record { made = sound.made; few = let lt = within in omega (arith, lt); out = tt }
-    by_done true (Some f) none new = absurd (let z : ◌≡◌ {A = Option FlightSeen} (Some f) None = none refl in cc)
-    by_done false None none new = record { made = sound.made; few = sound.few; out = tt }
-    by_done false (Some f) none new = record { made = sound.made; few = sound.few; out = (new.0, new.1, within) }
 
 pub may-then : (s t : KernelState) (lane new : LaneSeen) → TakesLaneTurn s t lane new → AreLaneCalls lane.calls → MayMakeCalls s lane → MayMakeCalls t new
 may-then s t lane new turn calls may = may-after s t lane new (turn-adds s t lane new turn) calls (ap (λ (x : Fixed). x.parents) turn.event.fixed) (ap (λ (x : Fixed). x.entries) turn.event.fixed) may
