@@ -11,7 +11,9 @@ use std::alloc::AllocError;
 use vm_core::{Attempt, Plan, VmState};
 use volume_files::{Call, Disk, Reply};
 
-/// Makes the transfer of the plan that was answered last. Some, with the device error, where it was for a call and failed.
+/// Makes the transfer of the plan that was answered last. Some, with the device error, where it was for a call and failed. Inline, so
+/// that the flight isn't moved.
+#[inline(always)]
 pub fn transfer<D: Disk>(
     state: &mut VmState<D>,
     plan: Plan,
