@@ -1,4 +1,5 @@
 -- A run that began: what it left, and what that is of what was asked.
+use Rattle.vm_core.specs.Finish.{disks_of}
 use Rattle.vm_run.proofs.StartedFlat.{infos-fresh as made-infos}
 use Rattle.volume_files.proofs.FileLineLemmas.{names-made as names-fresh}
 use Rattle.std.proofs.Common.{◌≡◌, ℕ, zero, suc, ◌≤◌, ◌<◌, ◌==◌, Bool, true, false, List, [], ◌∷◌, length, map, refl, sym, ap, ◌∙◌, subst, arith, inl, inr}
@@ -43,7 +44,6 @@ use Rattle.vm_run.specs.Run.{AreClosedBytes, AreOpenedBytes, Begun, ClosesFiles,
 use Rattle.volume_files.specs.Written.{AreFilesBytes, HaveDisks, KeepsBlocks, WriteTables, disk_sizes}
 use Rattle.volume_files.proofs.DiskLists.{at-map, in-map, mate, number, to-all, zip-back, sizes-by, sizes-written, low-disks, lookup-at}
 use Rattle.vm_run.proofs.AskedRules.{asked-rules}
-use Rattle.vm_run.proofs.DisksTell.{file-disks-tell}
 use Rattle.vm_run.proofs.KeptBytes.{stored-kept}
 use Rattle.vm_run.proofs.KeptFronts.{fronts-kept}
 use Rattle.vm_run.proofs.Returned.{swap-serves-still}
@@ -56,6 +56,10 @@ told-before old new k some = by old.content refl
     by : (content : Option (List (List ℕ))) → old.content ≡ content → IsSome old.content
     by None is = absurd (false≢true (subst IsSome (k.untold is) some))
     by (Some blocks) is = subst IsSome (sym is) refl
+
+-- where all disks tell, those of files do
+pub files-told : (infos : List FileInfo) (disks : List (ℕ × DiskSeen)) → All (λ (d : DiskSeen). IsSome d.content) (bare_disks disks) → FileDisksTell infos disks
+files-told infos disks all i k disk at lt own = All-slice_get (λ (d : DiskSeen). IsSome d.content) (bare_disks disks) i disk.1 all (at-map (λ (p : ℕ × DiskSeen). p.1) disks i disk at)
 
 pub spec-size : (s : VolumeSpec) (d e : DiskSeen) → e.size ≡ d.size → HasSpecSize s d → HasSpecSize s e
 spec-size (Plain (spec.Blank n blocks)) d e same h = same ∙ h
@@ -118,8 +122,16 @@ module _ (st : ℕ) (ft : Option RunFault) (g : Given) (what : Asked) (files : L
     last = h.last;
   }
 
-  disks-told : DisksTell g what ended → FileDisksTell (infos_of files) a.disks
-  disks-told t = file-disks-tell what.plan g.holds files a made s.memory.world ready.placed ready.placed.kept started.racked started.placed (left.tells (told-left t.disks))
+  told-start : DisksTell ended → All (λ (d : DiskSeen). IsSome d.content) (bare_disks a.disks)
+  told-start t = to-all (λ (d : DiskSeen). IsSome d.content) (bare_disks a.disks) (λ i d at.
+      let x = in-map (λ (p : ℕ × DiskSeen). p.1) a.disks i d at in
+      let there : slice_get (disks_of s.memory.world) i ≡ Some x.0 = ap (λ (L : List (ℕ × DiskSeen)). slice_get L i) started.racked ∙ x.1 in
+      let m = mate (disks_of s.memory.world) l.disks left.disks.numbers i x.0 there in
+      subst (λ (y : DiskSeen). IsSome y.content) x.2 (left.disks.told i x.0 m.0 there m.1
+      (All-slice_get (λ (e : DiskSeen). IsSome e.content) (bare_disks l.disks) i m.0.1 (told-left t).each (at-map (λ (p : ℕ × DiskSeen). p.1) l.disks i m.0 m.1))))
+
+  disks-told : DisksTell ended → FileDisksTell (infos_of files) a.disks
+  disks-told t = files-told (infos_of files) a.disks (told-start t)
 
   read-bytes : AreOpenedBytes g what files ended bytes
   read-bytes = record { lengths = ready.read.lengths; told = λ t. ready.read.told (disks-told t) }
@@ -144,7 +156,7 @@ module _ (st : ℕ) (ft : Option RunFault) (g : Given) (what : Asked) (files : L
     asked = ready.asked;
     handed = hands-all;
     given = comes-sizes what.plan g.holds (disk_sizes a.disks) (sizes_of what.plan (bare_disks new)) (Ok files) (sym sizes-new) ready.placed.given;
-    opened = λ t. ready.placed.told t.rack (disks-told t);
+    opened = λ t. ready.placed.told (told-start t);
   }
 
   -- the disks that come back have numbers of the plan
@@ -179,19 +191,19 @@ module _ (st : ℕ) (ft : Option RunFault) (g : Given) (what : Asked) (files : L
           (omega (arith, low, up))
 
   -- what a trace of it tells
-  traced-text : All (λ (e : Entry). HasToldCounts e.reply) l.history.entries → DisksTell g what ended
+  traced-text : All (λ (e : Entry). HasToldCounts e.reply) l.history.entries → DisksTell ended
       → IsTextFor (printed_text what.plan (sizes_of what.plan (bare_disks new)) files bytes l.history.entries) (flat_opened what files (bare_disks new)) l.history.entries
   traced-text counts t =
-      let legal = subst (λ (F : Flat). Legal F l.history.entries) (ap (λ (p : PlanSeen). opening_flat p (disk_sizes a.disks) files) ready.numbered) (left.legal (told-left t.disks)) in
+      let legal = subst (λ (F : Flat). Legal F l.history.entries) (ap (λ (p : PlanSeen). opening_flat p (disk_sizes a.disks) files) ready.numbered) (left.legal (told-left t)) in
       let ran : IsTracedRun what.plan g.holds files a made l.history.entries =
       record { rules = asked-rules g what ready.asked; placed = ready.placed; legal = legal; formed = left.formed; few = left.few; counts = counts } in
       subst (λ (z : List (ℕ × ℕ)). IsTextFor (printed_text what.plan z files bytes l.history.entries) (opening_flat what.plan z files) l.history.entries) (sym sizes-new)
       (run-stands what.plan g.holds files a made l.history.entries bytes ran (record { lengths = ready.read.lengths; told = ready.read.told (disks-told t) }))
 
   -- what its blocks hold
-  fronts : DisksTell g what ended → HoldFronts (flat_opened what files (bare_disks new)) l.history.entries new
+  fronts : DisksTell ended → HoldFronts (flat_opened what files (bare_disks new)) l.history.entries new
   fronts t =
-      let told = told-left t.disks in
+      let told = told-left t in
       subst (λ (F : Flat). HoldFronts F l.history.entries new) flat-same
       (fronts-kept (opening_flat plan (disk_sizes a.disks) files) l.history.entries l.disks new w (left.places told) (left.fronts told))
 
@@ -200,7 +212,7 @@ module _ (st : ℕ) (ft : Option RunFault) (g : Given) (what : Asked) (files : L
     opened = is-opened;
     read = read-bytes;
     traced = traced-text counts;
-    legal = λ t. subst (λ (F : Flat). Legal F l.history.entries) flat-same (left.legal (told-left t.disks));
+    legal = λ t. subst (λ (F : Flat). Legal F l.history.entries) flat-same (left.legal (told-left t));
     refusals = subst (λ (F : Flat). RefusesAsDue F l.history.entries) flat-same left.refusals;
     counted = left.counted;
     reached = reached;
@@ -214,10 +226,10 @@ module _ (st : ℕ) (ft : Option RunFault) (g : Given) (what : Asked) (files : L
   closed-same : (replay (opening_flat plan (disk_sizes a.disks) files) l.history.entries).files ≡ (flat_closed what files (bare_disks new) l.history.entries).files
   closed-same = ap (λ (F : Flat). (replay F l.history.entries).files) flat-same
 
-  stored : l.fault ≡ None → DisksTell g what ended → StoreFiles new (infos_made l.files) (flat_bytes (flat_closed what files (bare_disks new) l.history.entries).files)
+  stored : l.fault ≡ None → DisksTell ended → StoreFiles new (infos_made l.files) (flat_bytes (flat_closed what files (bare_disks new) l.history.entries).files)
   stored none t = subst (λ fs. StoreFiles new (infos_made l.files) (flat_bytes fs)) closed-same
       (stored-kept l.files l.disks new left.lie w _ (subst (λ (f : Option DiskFault). IfNone f (HaveTold (bare_disks l.disks) l.swap
-      → StoreFiles l.disks (infos_made l.files) (flat_bytes (replay (opening_flat plan (disk_sizes a.disks) files) l.history.entries).files))) none left.stored (told-left t.disks)))
+      → StoreFiles l.disks (infos_made l.files) (flat_bytes (replay (opening_flat plan (disk_sizes a.disks) files) l.history.entries).files))) none left.stored (told-left t)))
 
   modes-left : modes_in (infos_made l.files) ≡ modes_in (infos_of files)
   modes-left = modes-of l.files.files ∙ ap (map mode-from) (left.modes ∙ ap (λ (f : FilesSeen). map mode_of f.files) started.placed)
@@ -227,7 +239,7 @@ module _ (st : ℕ) (ft : Option RunFault) (g : Given) (what : Asked) (files : L
   pub leaves : l.fault ≡ None → LeavesFiles g what files (infos_made l.files) ended
   leaves none = record {
     modes = modes-left;
-    records = λ t. left.infos (told-left t.disks) ∙ ap (λ ns. infos_in_flat ns (replay (opening_flat plan (disk_sizes a.disks) files) l.history.entries).files) names-left
+    records = λ t. left.infos (told-left t) ∙ ap (λ ns. infos_in_flat ns (replay (opening_flat plan (disk_sizes a.disks) files) l.history.entries).files) names-left
         ∙ ap (infos_in_flat (names_of files)) closed-same;
     stored = λ t. subst (λ (d : List (ℕ × DiskSeen)). StoreFiles d (infos_made l.files) (flat_bytes (flat_closed what files (bare_disks new) l.history.entries).files)) (sym pairs-new) (stored none t);
   }
@@ -244,7 +256,7 @@ module _ (st : ℕ) (ft : Option RunFault) (g : Given) (what : Asked) (files : L
         let v = in-map (λ (v : VnodeSeen). v.info) l.files.files k info at in
         let there = have.there k v.0 v.1 in
         let disk : ℕ × DiskSeen = (v.0.info.disk, there.1) in
-        let told = All-slice_get (λ (d : DiskSeen). IsSome d.content) (bare_disks new) there.0 there.1 t.disks.each (at-map (λ (p : ℕ × DiskSeen). p.1) new there.0 disk there.2) in
+        let told = All-slice_get (λ (d : DiskSeen). IsSome d.content) (bare_disks new) there.0 there.1 t.each (at-map (λ (p : ℕ × DiskSeen). p.1) new there.0 disk there.2) in
         let own : info.disk ≡ v.0.info.disk = ap (λ (i : FileInfo). i.disk) (sym v.2) in
         both there.1.content (shown k) _ info told (are.told there.0 k disk info there.2 at own)
         (subst (λ (i : FileInfo). IfSome there.1.content (λ blocks. stored_bytes blocks i ≡ flat_bytes

@@ -18,7 +18,7 @@ use Rattle.volume_files.specs.declared.stops.OpenStop.TheVariants as halt
 use Rattle.vm_run.specs.Ending.{ending_of}
 use Rattle.vm_run.specs.declared.outcome.RunFault.{RunFault}
 use Rattle.vm_run.specs.Asked.{Given, Asked, WasAsked}
-use Rattle.volume_files.specs.Attached.{HandsStopped, StopCause, StopsEarly}
+use Rattle.volume_files.specs.Attached.{StopCause, StopsEarly}
 use Rattle.vm_run.specs.Course.{AskStops}
 use Rattle.vm_run.specs.Ended.{End, stop_end}
 use Rattle.volume_files.specs.Handed.{AreUncounted, HasOpeningCause, IsCountedBy}
@@ -73,17 +73,16 @@ module _ (st : ℕ) (ft : Option RunFault) (g : Given) (o : Outside) (nothing : 
         by None k = risen k
         by (Some c) k = k
 
-    early-case : (H : HistorySeen) (disks : List DiskSeen) (swap : Option DiskSeen) (how : OpenStop) → H.entries ≡ [] → H.faults ≡ [] → HandsStopped what.plan disks swap how
+    early-case : (H : HistorySeen) (disks : List DiskSeen) (swap : Option DiskSeen) (how : OpenStop) → H.entries ≡ [] → H.faults ≡ []
         → StopCause what.plan g.holds old new disks swap how → (how ≡ halt.Memory → AreUncounted disks swap) → CaseOf g o (wrote_before o) (record { status = st; fault = ft; history = H; disks = disks; swap = swap }) (ending_of how)
-    early-case H disks swap (halt.Refused r) entries counts hands cause none = inr (record {
+    early-case H disks swap (halt.Refused r) entries counts cause none = inr (record {
       what = what;
       asked = asked;
-      handed = hands;
       history = record { entries = entries; counts = counts };
       cause = cause;
       wrote = nothing;
     })
-    early-case H disks swap (halt.Failed f) entries counts hands cause none = elim cause [
+    early-case H disks swap (halt.Failed f) entries counts cause none = elim cause [
       | inl c ↦ inl (record {
         what = what;
         asked = asked;
@@ -96,7 +95,7 @@ module _ (st : ℕ) (ft : Option RunFault) (g : Given) (o : Outside) (nothing : 
         what = what;
         files = c.files;
         text = [];
-        opened = record { asked = asked; handed = c.handed; given = c.given; opened = λ t. c.opened t.disks };
+        opened = record { asked = asked; handed = c.handed; given = c.given; opened = c.opened };
         written = c.written;
         history = record { entries = entries; counts = counts };
         cause = c.cause;
@@ -104,11 +103,10 @@ module _ (st : ℕ) (ft : Option RunFault) (g : Given) (o : Outside) (nothing : 
         wrote = nothing;
       })
     ]
-    early-case H disks swap halt.Memory entries counts hands cause none = inr (inl (record {
+    early-case H disks swap halt.Memory entries counts cause none = inr (inl (record {
       what = what;
       asked = asked;
-      handed = hands;
-      same = cause;
+      handed = cause;
       counted = none refl;
       history = record { entries = entries; counts = counts };
       wrote = nothing;
@@ -119,7 +117,7 @@ module _ (st : ℕ) (ft : Option RunFault) (g : Given) (o : Outside) (nothing : 
     early seen back s u h none =
         let disks : map seen s.disks.items ≡ map seen back.disks.items = ap (λ v. map seen v.items) u.disks in
         let swap : option_map seen s.swap ≡ option_map seen back.swap = ap (option_map seen) u.swap in
-        rw (u.ending, disks, swap) (early-case s.history (map seen back.disks.items) (option_map seen back.swap) back.why u.entries u.counts h.handed h.cause none)
+        rw (u.ending, disks, swap) (early-case s.history (map seen back.disks.items) (option_map seen back.swap) back.why u.entries u.counts h none)
 
 -- a run that stopped before its trace, whose sink took nothing
 pub stopped-early : (st : ℕ) (ft : Option RunFault) (g : Given) (o : Outside) (what : Asked) → WasAsked g (Ok what) → (old new : ℕ)

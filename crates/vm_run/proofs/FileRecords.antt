@@ -1,25 +1,17 @@
 -- The records of files that come back, and whether their disks told at the start.
-use Rattle.std.proofs.Common.{◌≡◌, ℕ, suc, ◌<◌, ◌≤◌, Bool, true, false, cond, List, [], ◌∷◌, length, map, refl, sym, ap, ◌∙◌, inl, inr, subst, arith}
-use Rattle.std.specs.FinMap as finite
-use Rattle.std.proofs.lemmas.Bool.{cases_Bool}
+use Rattle.std.proofs.Common.{◌≡◌, ℕ, suc, ◌<◌, ◌≤◌, Bool, true, false, cond, List, [], ◌∷◌, length, map, refl, sym, ap, ◌∙◌, subst, arith}
 use Rattle.std.proofs.lemmas.List.{get_or-map, length-map}
 use Rattle.vm_core.specs.page_store.Notes.{no_notes}
-use Rattle.vm_core.specs.page_store.Value.{tells}
 use Rattle.volume_files.specs.vm_types.declared.call.Entry.{Entry}
 use Rattle.volume_files.specs.vnode_files.declared.vnode.FileInfo.{FileInfo}
 use Rattle.volume_files.specs.vnode_files.Files.{FilesSeen, vnode_at}
 use Rattle.volume_files.specs.vnode_files.Vnode.{VnodeSeen, no_vnode}
 use Rattle.volume_files.specs.volume_format.Table.{no_entry}
-use Rattle.volume_files.specs.flat_model.Births.{AreBorn}
 use Rattle.volume_files.specs.flat_model.Flat.{File, Flat}
-use Rattle.volume_files.specs.flat_model.History.{Legal, Steps, replay}
-use Rattle.volume_files.specs.flat_model.Opening.{flat_at_opening}
+use Rattle.volume_files.specs.flat_model.History.{Legal, replay}
 use Rattle.volume_files.specs.flat_model.Parts.{without_tail}
-use Rattle.volume_files.specs.flat_model.Step.{is_bit_set, files_cleared, step}
+use Rattle.volume_files.specs.flat_model.Step.{is_bit_set, files_cleared}
 use Rattle.volume_files.specs.flat_model.Words.{Page}
-use Rattle.volume_files.proofs.flat_model.Frames.{StepFrame-step}
-use Rattle.volume_files.proofs.flat_model.Lives.{AreBorn-step}
-use Rattle.volume_files.proofs.flat_model.Opened.{IsFlat-opening}
 use Rattle.vm_core.specs.vm_world.Events.{IsSince}
 use Rattle.vm_core.specs.vm_world.FlatMemory.{files_with_pages, flat_memory}
 use Rattle.vm_core.specs.vm_world.HistoryFits.{HistoryFits}
@@ -27,7 +19,6 @@ use Rattle.vm_core.specs.vm_world.Opening.{no_seats}
 use Rattle.vm_core.specs.vm_world.Pages.{contents_of}
 use Rattle.vm_core.specs.vm_world.State.{FileMode, Fixed, KernelState, mode_of}
 use Rattle.vm_core.specs.vm_world.StateFits.{StateFits}
-use Rattle.vm_core.specs.vm_world.World.{AllTell, world_table}
 use Rattle.volume_files.specs.Attached.{bare_disks}
 use Rattle.volume_files.specs.Closed.{info_at, info_in_flat, infos_in_flat}
 use Rattle.volume_files.specs.Handed.{HaveTold}
@@ -69,11 +60,6 @@ infos-cleared test (name ∷ names) (file ∷ files) =
 pub record-at : (files : FilesSeen) (k : ℕ) → k < length files.files → info_at (map (λ (v : VnodeSeen). v.info) files.files) k ≡ (vnode_at files k).info
 record-at files k lt = get_or-map (λ (v : VnodeSeen). v.info) files.files k no_vnode no_entry lt
 
--- no step changes how many slots there are
-slots-replay : (F : Flat) (H : List Entry) → AreBorn F → Steps F H → (replay F H).slots ≡ F.slots
-slots-replay F [] born steps = refl
-slots-replay F (e ∷ H) born steps = slots-replay (step F e) H (AreBorn-step F e born steps.0) steps.1 ∙ (StepFrame-step F e born steps.0).slots
-
 module _ (F : Flat) (s t : KernelState) (l : LeftSeen) (since : IsSince s t no_seats) (before : StateFits F s no_seats) (c : Closes t l) where
   pub modes-left : map mode_of l.files.files ≡ map mode_of s.memory.world.files.files
   modes-left =
@@ -108,34 +94,3 @@ module _ (F : Flat) (s t : KernelState) (l : LeftSeen) (since : IsSince s t no_s
       ∙ ap (λ (G : Flat). infos_in_flat names G.files) fits.shows
       ∙ infos-cleared (is_bit_set t.pending) names (replay F t.history).files
       ∙ ap (λ (H : List Entry). infos_in_flat names (replay F H).files) (sym c.entries)
-
-  -- THE DISKS TOLD AT THE START where they tell at the end: else any flat memory would do for the start, and those of one number of slots end with it.
-  pub told-left : HaveTold (bare_disks l.disks) l.swap → AllTell s.memory.world no_notes
-  told-left told name is = elim (cases_Bool (tells s.memory.world.store no_notes (world_table s.memory.world name).disk)) [
-    | inl tell ↦ tell
-    | inr silent ↦ absurd (never silent)
-  ]
-    where
-      any : tells s.memory.world.store no_notes (world_table s.memory.world name).disk ≡ false → (G : Flat) → StateFits G s no_seats
-      any silent G = record {
-        memory = before.memory;
-        notes = before.notes;
-        replays = λ tell. absurd (let z : true ≡ false = sym (tell name is) ∙ silent in cc);
-        faults = before.faults;
-        calls = before.calls;
-        rooms = before.rooms;
-        births = before.births;
-        plans = before.plans;
-        marks = λ tell. absurd (let z : true ≡ false = sym (tell name is) ∙ silent in cc);
-        failures = before.failures;
-        pushes = before.pushes;
-      }
-
-      slots-then : tells s.memory.world.store no_notes (world_table s.memory.world name).disk ≡ false → (n : ℕ) → length t.memory.world.anon.counts ≡ n
-      slots-then silent n =
-          let G : Flat = flat_at_opening n finite.empty [] [] in
-          let fits : HistoryFits G t.history t.pending (flat_memory t.memory t.born no_notes) = (since.fits G (any silent G)).replays (all-tell F s t l since before c told) in
-          ap (λ (f : Flat). f.slots) fits.shows ∙ slots-replay G t.history (IsFlat-opening n).born fits.legal.steps
-
-      never : tells s.memory.world.store no_notes (world_table s.memory.world name).disk ≡ false → ⊥
-      never silent = let z : 0 ≡ 1 = sym (slots-then silent 0) ∙ slots-then silent 1 in omega (arith, z)

@@ -26,7 +26,6 @@ pub mod OpenedPages
 pub mod StartedFlat
 pub mod StartRules
 pub mod Starts
-pub mod DisksTell
 pub mod Asking
 pub mod PlayablePlans
 pub mod StartedFiles

@@ -35,7 +35,7 @@ use Rattle.vm_run.proofs.BlocksLeft.{fronts-left, places-left}
 use Rattle.vm_run.proofs.FileBytesLeft.{stored-left}
 use Rattle.vm_run.proofs.FitLines.{fit-all}
 use Rattle.vm_run.proofs.KernelRows.{played-since}
-use Rattle.vm_run.proofs.FileRecords.{extents-left, infos-left, legal-left, lie-left, modes-left, told-left}
+use Rattle.vm_run.proofs.FileRecords.{extents-left, infos-left, legal-left, lie-left, modes-left}
 use Rattle.vm_run.proofs.Returned.{Closes, all-tell, counts-left, disks-left, fault-left, have-left, reached-left, swap-left}
 use Rattle.vm_run.proofs.ToldLines.{front-told, whole-told}
 
@@ -126,7 +126,6 @@ is-left plan F disks swap files s t whole l st played c =
       counts = counts-left F s t l since before c;
       disks = disks-left F s t l since before c files have st.placed;
       swap = swap-left F s t l since before c;
-      tells = told-left F s t l since before c;
     }
 
 -- a swap disk that came out, as it is seen

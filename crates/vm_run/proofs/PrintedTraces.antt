@@ -47,7 +47,7 @@ begins true is opening entries sections files = ap (λ (t : List ℕ). opening +
 begins false is opening entries sections files = absurd cc
 
 module _ (one : OneAnswer) (g : Given) (o : Outside) (e : End) where
-  by-whole : (w : EndsWhole g o e) → IsTrue w.course.what.options.trace → DisksTell g w.course.what e → PrintsTrace g o w.course.what e
+  by-whole : (w : EndsWhole g o e) → IsTrue w.course.what.options.trace → DisksTell e → PrintsTrace g o w.course.what e
   by-whole w trace tell =
       let c = w.course in
       let begun = w.shown.runs.begun in
@@ -65,12 +65,12 @@ module _ (one : OneAnswer) (g : Given) (o : Outside) (e : End) where
       }
 
   -- no other status than 0
-  other : (n : ℕ) → 1 ≤ n → e.status ≡ n → (what : Asked) → run_request g ≡ Some (Ok what) → IsTrue what.options.trace → e.status ≡ 0 → DisksTell g what e → PrintsTrace g o what e
+  other : (n : ℕ) → 1 ≤ n → e.status ≡ n → (what : Asked) → run_request g ≡ Some (Ok what) → IsTrue what.options.trace → e.status ≡ 0 → DisksTell e → PrintsTrace g o what e
   other n some s what is trace zero tell = absurd (omega (arith, some, s, zero))
 
   by-case : (how : Ending) → e.status ≡ status_of how → CaseOf g o (wrote_all o) e how → PrintsLegalTrace g o e
   by-case ending.Whole s w = λ what is trace zero tell.
-      subst (λ (x : Asked). IsTrue x.options.trace → DisksTell g x e → PrintsTrace g o x e) (same-run_request g what w.course.what is w.shown.runs.begun.opened.asked) (by-whole w) trace tell
+      subst (λ (x : Asked). IsTrue x.options.trace → DisksTell e → PrintsTrace g o x e) (same-run_request g what w.course.what is w.shown.runs.begun.opened.asked) (by-whole w) trace tell
   by-case (ending.Checked (ends.Told a)) s c = λ what is trace zero tell. absurd (not-checked g what a is c.answer)
   by-case (ending.Checked ends.Sink) s c = other 6 (omega arith) s
   by-case ending.Usage s c = other 2 (omega arith) s

@@ -250,6 +250,11 @@ module _ (F : Flat) (s t : KernelState) (l : LeftSeen) (since : IsSince s t no_s
       let was : disk_there s no_seats (disk_at start i).0 ≡ Some (disk_fixed (disk_at start i).1) = ap (λ (b : BaySeen). seen_in disk_fixed b no_notes) (home-before i inside) in
       some-inj (disk_fixed (disk_at old i).1) (disk_fixed (disk_at start i).1) (sym now ∙ since.disks (disk_at old i).0 ∙ ap (disk_there s no_seats) (number-same i lt) ∙ was)
 
+  told-before : (a b : Option (List (List ℕ))) (number : ℕ) → KeepsOtherBlocks t.memory.world.files number a b → IsSome b → IsSome a
+  told-before None None number keeps some = some
+  told-before None (Some y) number keeps some = absurd keeps
+  told-before (Some x) b number keeps some = refl
+
   kind-same : (i : ℕ) → i < length old → (disk_at old i).1.kind ≡ (disk_at start i).1.kind
   kind-same i lt = ap (λ (f : FixedOfDisk). f.kind) (fixed-same i lt)
 
@@ -262,6 +267,9 @@ module _ (F : Flat) (s t : KernelState) (l : LeftSeen) (since : IsSince s t no_s
         (kept i d at).size ∙ size-same files have placed i (within-new i d at) ∙ ap (λ (x : ℕ × DiskSeen). x.1.size) (at-place start i e is));
     kinds = same-maps (λ (d : ℕ × DiskSeen). d.1.kind) (λ (d : ℕ × DiskSeen). d.1.kind) l.disks start (long-new ∙ long-old) (λ i d e at is.
         (kept i d at).kind ∙ kind-same i (within-new i d at) ∙ ap (λ (x : ℕ × DiskSeen). x.1.kind) (at-place start i e is));
+    told = λ i d e at is some.
+        let was = told-before (disk_at old i).1.content e.1.content (disk_at old i).0 (kept i e is).blocks some in
+        subst (λ (x : ℕ × DiskSeen). IsSome x.1.content) (at-place start i d at) (sym (ap (λ (f : FixedOfDisk). f.tells) (fixed-same i (within-new i e is))) ∙ was);
   }
 
   -- THE SWAP DISK has its size
@@ -310,11 +318,6 @@ module _ (F : Flat) (s t : KernelState) (l : LeftSeen) (since : IsSince s t no_s
           → bay_at t.memory.world.store.bays 8 ≢ missing → IsTrue (tells t.memory.world.store no_notes 8)
       by_swap None tell here there = absurd (there here)
       by_swap (Some d) tell here there = in-bay 8 d here tell
-
-      told-before : (a b : Option (List (List ℕ))) (number : ℕ) → KeepsOtherBlocks t.memory.world.files number a b → IsSome b → IsSome a
-      told-before None None number keeps some = some
-      told-before None (Some y) number keeps some = absurd keeps
-      told-before (Some x) b number keeps some = refl
 
       by_name : ((name.object ≡ 64) × (name.page < length t.memory.world.anon.counts)) ⊎
           ((name.object ≢ 64) × (name.object < length t.memory.world.files.files)

@@ -39,10 +39,10 @@ use Rattle.vm_run.specs.Run.{AreOpenedBytes, CaseOf, IsOpened, Outside, opening_
 use Rattle.volume_files.specs.Texts.{IsPageUnread, Wrote, WroteFront, WrotePart, file_sections, sections_before, trace_front}
 use Rattle.vm_run.specs.AskedTexts.{trace_opening}
 use Rattle.volume_files.specs.Written.{AreFilesBytes, AreOnlyRead, HaveFirstBlocks, FaultCounts, IsCountedSince, TraceShows, disk_sizes, open_fault_counts}
-use Rattle.vm_run.proofs.Courses.{spec-size}
+use Rattle.vm_run.proofs.Courses.{files-told, spec-size}
 use Rattle.volume_files.proofs.WrittenTexts.{wrote_front}
 use Rattle.volume_files.proofs.FaultCauses.{if-counted}
-use Rattle.volume_files.proofs.DiskLists.{at-map, have-read, in-map, lookup-at, low-disks, mate, same-image, sizes-by, zip-back}
+use Rattle.volume_files.proofs.DiskLists.{at-map, have-read, in-map, lookup-at, low-disks, mate, same-image, sizes-by, zip-back, to-all}
 use Rattle.volume_files.proofs.GivenFiles.{comes-sizes}
 use Rattle.volume_files.specs.vm_script.Rules.{amounts_of}
 
@@ -61,6 +61,13 @@ pub tell-read : (infos : List FileInfo) (old new : List (ℕ × DiskSeen)) → A
 tell-read infos old new r t i k disk at lt own =
     let m = mate old new r.numbers i disk at in
     subst (λ (c : Option (List (List ℕ))). IsSome c) (r.each i disk m.0 at m.1).content (t i k m.0 m.1 lt (own ∙ sym m.2))
+
+told-read : (old new : List (ℕ × DiskSeen)) → AreOnlyRead old new → All (λ (d : DiskSeen). IsSome d.content) (bare_disks new) → All (λ (d : DiskSeen). IsSome d.content) (bare_disks old)
+told-read old new r told = to-all (λ (d : DiskSeen). IsSome d.content) (bare_disks old) (λ i d at.
+    let x = in-map (λ (p : ℕ × DiskSeen). p.1) old i d at in
+    let m = mate old new r.numbers i x.0 x.1 in
+    subst (λ (y : DiskSeen). IsSome y.content) x.2 (subst (λ (c : Option (List (List ℕ))). IsSome c) (r.each i x.0 m.0 x.1 m.1).content
+    (All-slice_get (λ (e : DiskSeen). IsSome e.content) (bare_disks new) i m.0.1 told (at-map (λ (p : ℕ × DiskSeen). p.1) new i m.0 m.1))))
 
 stored-read : (infos : List FileInfo) (bytes : ℕ → List ℕ) (old new : List (ℕ × DiskSeen)) → AreOnlyRead old new → StoreFiles old infos bytes → StoreFiles new infos bytes
 stored-read infos bytes old new r h i k disk at lt own =
@@ -118,7 +125,7 @@ placed-read plan holds files a b made p r same = record {
   kept = p.kept;
   given = comes-sizes plan holds (disk_sizes a.disks) (disk_sizes b.disks) (Ok files) (sym (pairs-read a.disks b.disks r)) p.given;
   written = written-read plan holds (line_files_of p.given.found files) a.disks b.disks a.swap b.swap r same p.written;
-  told = λ rack tell. p.told rack (tell-read (infos_of files) a.disks b.disks r tell);
+  told = λ told. p.told (told-read a.disks b.disks r told);
   stored = stored-read (infos_of files) (opened_bytes_at files) a.disks b.disks r p.stored;
 }
 
@@ -230,9 +237,8 @@ module _ (st : ℕ) (ft : Option RunFault) (g : Given) (o : Outside) (what : Ask
   abbrev pub stopped : End
   stopped = record { status = st; fault = ft; history = H; disks = bare_disks new; swap = a.swap }
 
-  tell : HaveTold (bare_disks new) a.swap → FileDisksTell (infos_of files) a.disks
-  tell t = tell-read (infos_of files) a.disks new r (λ i k disk at lt own.
-      All-slice_get (λ (d : DiskSeen). IsSome d.content) (bare_disks new) i disk.1 t.each (at-map (λ (q : ℕ × DiskSeen). q.1) new i disk at))
+  tell : HaveTold (bare_disks new) a.swap → All (λ (d : DiskSeen). IsSome d.content) (bare_disks a.disks)
+  tell t = told-read a.disks new r t.each
 
   pairs : volumes_of what.plan (bare_disks new) ≡ new
   pairs = ap (λ (ns : List ℕ). zip ns (bare_disks new)) (sym p.numbers ∙ sym r.numbers) ∙ zip-back new
@@ -245,11 +251,11 @@ module _ (st : ℕ) (ft : Option RunFault) (g : Given) (o : Outside) (what : Ask
     asked = asked;
     handed = hands-read what.plan a.disks new a.swap r p.handed;
     given = comes-sizes what.plan g.holds (disk_sizes a.disks) (sizes_of what.plan (bare_disks new)) (Ok files) (sym sizes) p.given;
-    opened = λ t. p.told t.rack (tell t.disks);
+    opened = λ t. p.told (tell t);
   }
 
   pub bytes-so : AreOpenedBytes g what files stopped bytes
-  bytes-so = record { lengths = read.lengths; told = λ t. read.told (tell t.disks) }
+  bytes-so = record { lengths = read.lengths; told = λ t. read.told (files-told (infos_of files) a.disks (tell t)) }
 
   written-so : AreWrittenAt what.plan g.holds (line_files_of p.given.found files) (bare_disks new) a.swap
   written-so = written-read what.plan g.holds (line_files_of p.given.found files) a.disks new a.swap a.swap r refl p.written

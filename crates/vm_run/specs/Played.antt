@@ -1,5 +1,5 @@
 -- A kernel that is started, and what it leaves once its processes ran. Inside: no clause of `run` cites this.
-use Rattle.std.specs.Prelude.{ℕ, suc, [], ◌∷◌, ◌≡◌, ◌<◌, ◌≤◌, ◌^◌, ◌⊎◌, ◌+◌, List, Bool, IsTrue, length, map, sum_by, All, Some, None, IfNone, IfSome, Option, option_map, slice_get, slice_index_or}
+use Rattle.std.specs.Prelude.{ℕ, suc, [], ◌∷◌, ◌≡◌, ◌<◌, ◌≤◌, ◌^◌, ◌⊎◌, ◌+◌, List, Bool, IsTrue, length, map, sum_by, All, Some, None, IfNone, IfSome, Option, option_map, slice_get, slice_index_or, IsSome}
 use Rattle.volume_files.specs.vm_types.declared.call.Entry.{Entry}
 use Rattle.volume_files.specs.vm_types.declared.call.Reply.TheVariants.{Io}
 use Rattle.volume_files.specs.vm_types.WellFormed.{IsWellFormed}
@@ -33,7 +33,6 @@ use Rattle.volume_files.specs.Closed.{StoreFiles, infos_in_flat, flat_bytes}
 use Rattle.volume_files.specs.Handed.{HaveTold}
 use Rattle.volume_files.specs.Written.{infos_made, LieWell, HaveDisks, HaveExtents, HasLastFault, disk_fault_counts}
 use Rattle.vm_core.specs.page_store.Notes.{no_notes}
-use Rattle.vm_core.specs.vm_world.World.{AllTell}
 use Rattle.volume_files.specs.vm_script.Rules.{amounts_of}
 
 -- Each process may make as many entries as its lines need, and all together not many.
@@ -90,14 +89,15 @@ left_seen seen f = record { history = f.history; files = f.files; disks = pairs_
 abbrev pub IsDiskOf : List (ℕ × DiskSeen) → Option DiskSeen → ℕ → DiskSeen → Type 0
 IsDiskOf disks swap number d = ((i : ℕ) × (slice_get disks i ≡ Some (number, d))) ⊎ ((number ≡ 8) × (swap ≡ Some d))
 
--- Disks came back that went: with their numbers, in their order, their sizes and their kinds.
+-- Disks came back that went: with their numbers, in their order, their sizes and their kinds; and one that tells told before.
 pub record DisksCameBack (old new : List (ℕ × DiskSeen)) : Type 0 where
   pub count : length new ≡ length old
   pub numbers : map (λ (d : ℕ × DiskSeen). d.0) new ≡ map (λ (d : ℕ × DiskSeen). d.0) old
   pub sizes : map (λ (d : ℕ × DiskSeen). d.1.size) new ≡ map (λ (d : ℕ × DiskSeen). d.1.size) old
   pub kinds : map (λ (d : ℕ × DiskSeen). d.1.kind) new ≡ map (λ (d : ℕ × DiskSeen). d.1.kind) old
+  pub told : (i : ℕ) (d e : ℕ × DiskSeen) → slice_get old i ≡ Some d → slice_get new i ≡ Some e → IsSome e.1.content → IsSome d.1.content
 
--- The swap disk came back with its size and its kind, where there was one.
+-- The swap disk came back with its size and its kind, where there was one, and tells where it told.
 abbrev pub SwapCameBack : BaySeen → Option DiskSeen → Type 0
 SwapCameBack old new = option_map disk_fixed new ≡ seen_in disk_fixed old no_notes
 
@@ -131,7 +131,6 @@ pub record KernelLeaves (F : Flat) (s : KernelState) (l : LeftSeen) : Type 0 whe
   pub counts : (i : ℕ) (d : ℕ × DiskSeen) → slice_get l.disks i ≡ Some d → (count : ℕ) × (slice_index_or l.history.faults d.0 None ≡ Some count) × (count ≤ d.1.faults)
   pub disks : DisksCameBack (disks_of s.memory.world) l.disks
   pub swap : SwapCameBack (bay_at s.memory.world.store.bays 8) l.swap
-  pub tells : HaveTold (bare_disks l.disks) l.swap → AllTell s.memory.world no_notes
 
 -- A plan whose lines the kernel can make: each of them is sound, in blocks that nest.
 pub record IsPlayable (plan : PlanSeen) : Type 0 where

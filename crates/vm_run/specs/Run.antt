@@ -33,7 +33,7 @@ use Rattle.volume_files.specs.Closed.{StoreFiles, SayTables, infos_in_flat, flat
 use Rattle.vm_run.specs.Ending.{status_of, fault_of, last_line_of}
 use Rattle.vm_run.specs.Ended.{End, HasLateCause, CountsReach}
 use Rattle.vm_run.specs.OnDisks.{HoldFronts}
-use Rattle.volume_files.specs.Handed.{AreUncounted, AreUntouched, AreWrittenAt, HaveTold, RackTells, HandsNone, HandsFront, HandsAll, HandsRefused, HasDiskCause}
+use Rattle.volume_files.specs.Handed.{AreUncounted, AreWrittenAt, HaveTold, HandsNone, HandsFront, HandsAll, HasDiskCause}
 use Rattle.volume_files.specs.Handed.{HasOpeningCause, HasRefusalCause, StopsAttaching, volumes_of, sizes_of, member_count}
 use Rattle.volume_files.specs.Opened.{line_files_of, ComesTo, OpenedFile, opened_files, infos_of, names_of, numbered_plan, opening_flat}
 use Rattle.volume_files.specs.Texts.{Wrote, WroteAndFront, WroteAndPart, WroteFront, WroteOn, WrotePart, IsPageUnread, sections_before, trace_front}
@@ -74,10 +74,9 @@ wrote_all o text line = WroteOn o.sink_old o.sink_new text line
 abbrev pub wrote_before : Outside → Writing
 wrote_before o text line = Wrote o.sink_old o.sink_new text
 
--- The rack tells what it holds, and each disk that came back tells its blocks.
-pub record DisksTell (g : Given) (what : Asked) (e : End) : Type 0 where
-  pub rack : RackTells g.holds what.plan
-  pub disks : HaveTold e.disks e.swap
+-- Each disk that came back tells its blocks.
+abbrev pub DisksTell : End → Type 0
+DisksTell e = HaveTold e.disks e.swap
 
 -- The processes never ran: the history is empty.
 pub record HasNoHistory (e : End) : Type 0 where
@@ -94,7 +93,6 @@ pub record EndsBare (W : Writing) (how : Ending) (e : End) : Type 0 where
 pub record BreaksRule (g : Given) (W : Writing) (r : Refusal) (e : End) : Type 0 where
   pub what : Asked
   pub asked : WasAsked g (Ok what)
-  pub handed : HandsRefused what.plan e.disks e.swap r
   pub history : HasNoHistory e
   pub cause : HasRefusalCause what.plan g.holds e.disks e.swap r
   pub wrote : W [] (last_line_of (ending.Refused r))
@@ -102,7 +100,7 @@ pub record BreaksRule (g : Given) (W : Writing) (r : Refusal) (e : End) : Type 0
 -- The bytes of files that were read from the disks, each as long as its record says; where the disks tell, those of the files as they are opened.
 pub record AreOpenedBytes (g : Given) (what : Asked) (files : List OpenedFile) (e : End) (bytes : ℕ → List ℕ) : Type 0 where
   pub lengths : (k : ℕ) (f : OpenedFile) → slice_get files k ≡ Some f → length (bytes k) ≡ f.info.length
-  pub told : DisksTell g what e → (k : ℕ) (f : OpenedFile) → slice_get files k ≡ Some f → bytes k ≡ f.bytes
+  pub told : DisksTell e → (k : ℕ) (f : OpenedFile) → slice_get files k ≡ Some f → bytes k ≡ f.bytes
 
 -- What was asked, and how the files were opened. Over any disks they are those of the tables that were read and then those of the script's lines, and no
 -- set-up rule is broken; where the disks tell, they are the very files by the set-up rules.
@@ -110,7 +108,7 @@ pub record IsOpened (g : Given) (what : Asked) (files : List OpenedFile) (e : En
   pub asked : WasAsked g (Ok what)
   pub handed : HandsAll what.plan e.disks e.swap
   pub given : ComesTo what.plan g.holds (sizes_of what.plan e.disks) (Ok files)
-  pub opened : DisksTell g what e → opened_files what.plan g.holds ≡ Ok files
+  pub opened : DisksTell e → opened_files what.plan g.holds ≡ Ok files
 
 -- No call was made yet: the disks were written at most where the bytes of the files of the script's lines lie.
 abbrev pub WroteLines : (g : Given) (what : Asked) (files : List OpenedFile) {sizes : List (ℕ × ℕ)} → ComesTo what.plan g.holds sizes (Ok files) → End → Type 0
@@ -187,19 +185,19 @@ traced_text what files bytes e = printed_text what.plan (sizes_of what.plan e.di
 pub record Begun (g : Given) (what : Asked) (files : List OpenedFile) (bytes : ℕ → List ℕ) (e : End) : Type 0 where
   pub opened : IsOpened g what files e
   pub read : AreOpenedBytes g what files e bytes
-  pub legal : DisksTell g what e → Legal (flat_opened what files e.disks) e.history.entries
-  pub traced : DisksTell g what e → IsTextFor (traced_text what files bytes e) (flat_opened what files e.disks) e.history.entries
+  pub legal : DisksTell e → Legal (flat_opened what files e.disks) e.history.entries
+  pub traced : DisksTell e → IsTextFor (traced_text what files bytes e) (flat_opened what files e.disks) e.history.entries
   pub refusals : RefusesAsDue (flat_opened what files e.disks) e.history.entries
   pub counted : Counted e.history.entries
   pub reached : CountsReach what.plan e.disks e.swap e.history.entries
-  pub fronts : DisksTell g what e → HoldFronts (flat_opened what files e.disks) e.history.entries (volumes_of what.plan e.disks)
+  pub fronts : DisksTell e → HoldFronts (flat_opened what files e.disks) e.history.entries (volumes_of what.plan e.disks)
 
 -- The disks have its files: those with which it began, by name, disk and mode; where the disks tell, their records are those of flat memory after the
 -- history, and so are the bytes that the disks have.
 pub record LeavesFiles (g : Given) (what : Asked) (files : List OpenedFile) (infos : List FileInfo) (e : End) : Type 0 where
   pub modes : modes_in infos ≡ modes_in (infos_of files)
-  pub records : DisksTell g what e → infos ≡ infos_in_flat (names_of files) (flat_closed what files e.disks e.history.entries).files
-  pub stored : DisksTell g what e → StoreFiles (volumes_of what.plan e.disks) infos (flat_bytes (flat_closed what files e.disks e.history.entries).files)
+  pub records : DisksTell e → infos ≡ infos_in_flat (names_of files) (flat_closed what files e.disks e.history.entries).files
+  pub stored : DisksTell e → StoreFiles (volumes_of what.plan e.disks) infos (flat_bytes (flat_closed what files e.disks e.history.entries).files)
 
 -- ITS FILES WERE CLOSED: the disks have them, and block 0 of each disk says the table of its files.
 pub record ClosesFiles (g : Given) (what : Asked) (files : List OpenedFile) (infos : List FileInfo) (e : End) : Type 0 where
@@ -209,7 +207,7 @@ pub record ClosesFiles (g : Given) (what : Asked) (files : List OpenedFile) (inf
 -- The bytes of the files that were read back, each as long as its record says; where the disks tell, those of flat memory after the history.
 pub record AreClosedBytes (g : Given) (what : Asked) (files : List OpenedFile) (infos : List FileInfo) (e : End) (bytes : ℕ → List ℕ) : Type 0 where
   pub lengths : (k : ℕ) (i : FileInfo) → slice_get infos k ≡ Some i → length (bytes k) ≡ i.length
-  pub told : DisksTell g what e → (k : ℕ) (i : FileInfo) → slice_get infos k ≡ Some i
+  pub told : DisksTell e → (k : ℕ) (i : FileInfo) → slice_get infos k ≡ Some i
       → bytes k ≡ flat_bytes (flat_closed what files e.disks e.history.entries).files k
 
 -- What was asked, how it was opened, and how it was closed and read back.
@@ -284,8 +282,7 @@ pub record LacksBare (o : Outside) (e : End) : Type 0 where
 pub record LacksOpening (g : Given) (o : Outside) (e : End) : Type 0 where
   pub what : Asked
   pub asked : WasAsked g (Ok what)
-  pub handed : HandsFront what.plan e.disks e.swap
-  pub same : AreUntouched what.plan g.holds e.disks e.swap
+  pub handed : HandsFront what.plan g.holds e.disks e.swap
   pub counted : AreUncounted e.disks e.swap
   pub history : HasNoHistory e
   pub wrote : Wrote o.sink_old o.sink_new []
@@ -400,4 +397,4 @@ pub record PrintsTrace (g : Given) (o : Outside) (what : Asked) (e : End) : Type
 -- With a trace and status 0, over disks that tell, such a trace was printed.
 abbrev pub PrintsLegalTrace : Given → Outside → End → Type 0
 PrintsLegalTrace g o e =
-    (what : Asked) → run_request g ≡ Some (Ok what) → IsTrue what.options.trace → e.status ≡ 0 → DisksTell g what e → PrintsTrace g o what e
+    (what : Asked) → run_request g ≡ Some (Ok what) → IsTrue what.options.trace → e.status ≡ 0 → DisksTell e → PrintsTrace g o what e

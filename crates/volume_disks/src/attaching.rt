@@ -23,21 +23,21 @@ fn stop_of(fault: AttachFault) -> VolumeStop
     }
 }
 
-// The volume of these disks. The error is want of memory.
+// The volume of these two disks. The error is want of memory.
 fn paired<D: Disk, P: Pairing<D>>(
     alloc: Global,
     first: Unopened<D>,
-    second: Option<Unopened<D>>,
+    second: Unopened<D>,
     mirror: bool,
 ) -> Result<Unopened<P>, Unattached<D>>
-    requires { CanPair D.seen first.disk (option_map (λ d. d.disk) second) mirror }
+    requires { CanPair D.seen first.disk (Some second.disk) mirror }
     ensures stands { IfOk result (λ volume.
-        P.pairs first.disk (option_map (λ d. d.disk) second) mirror volume.disk) }
+        P.pairs first.disk (Some second.disk) mirror volume.disk) }
     ensures number { IfOk result (λ volume. volume.number ≡ first.number) }
     ensures back { IfErr result (λ u.
-        u ≡ record { why = Memory; first = Some first; second = second }) }
+        u ≡ record { why = Memory; first = Some first; second = Some second }) }
 {
-    match first.pair(alloc, second, mirror) {
+    match first.pair(alloc, Some(second), mirror) {
         Ok(volume) => Ok(volume),
         Err((first, second)) => Err(Unattached {
             why: VolumeStop::Memory,
@@ -47,9 +47,8 @@ fn paired<D: Disk, P: Pairing<D>>(
     }
 }
 
-// Attaches the disk of a spec, as a volume.
+// Attaches the disk of a spec, as a volume. It takes no memory of its own.
 fn attach_plain<R: Rack, P: Pairing<R::D>>(
-    alloc: Global,
     rack: &mut R,
     spec: &Spec,
 ) -> Result<Unopened<P>, Unattached<R::D>>
@@ -69,7 +68,7 @@ fn attach_plain<R: Rack, P: Pairing<R::D>>(
     ensures steady { OnOk result ((R.seen rack.new).faults ≡ (R.seen rack.old).faults) }
 {
     match Unopened::attach(rack, spec) {
-        Ok(disk) => paired(alloc, disk, None, false),
+        Ok(disk) => Ok(disk.alone()),
         Err(fault) => Err(Unattached {
             why: stop_of(fault),
             first: None,
@@ -124,7 +123,7 @@ fn attach_joined<R: Rack, P: Pairing<R::D>>(
         }
     };
     match size_fault(&a, &b) {
-        None => paired(alloc, a, Some(b), mirror),
+        None => paired(alloc, a, b, mirror),
         Some(why) => Err(Unattached {
             why,
             first: Some(a),
@@ -158,7 +157,7 @@ pub fn attach_volume<R: Rack, P: Pairing<R::D>>(
     ensures steady { OnOk result ((R.seen rack.new).faults ≡ (R.seen rack.old).faults) }
 {
     match volume {
-        VolumeSpec::Plain(spec) => attach_plain(alloc, rack, spec),
+        VolumeSpec::Plain(spec) => attach_plain(rack, spec),
         VolumeSpec::Joined {
             first,
             second,

@@ -7,41 +7,39 @@ use Rattle.std.specs.Ordering.{nat_cmp}
 use Rattle.std.specs.FinMap as finite
 use Rattle.std.specs.Cmp.{nat_cmp_total, unsigned_tied}
 use Rattle.std.proofs.Common.{ap, ◌∙◌, sym, subst, refl, arith, inl, inr, cond}
-use Rattle.std.proofs.lemmas.Bool.{cases_eq, eq-eqb, false≢true, ne_eqb, both_ways}
+use Rattle.std.proofs.lemmas.Bool.{cases_eq, eq-eqb, ne_eqb, both_ways}
 use Rattle.std.proofs.lemmas.List.{length-map, get_or-map, append_cancel_left, append-nil}
-use Rattle.std.proofs.lemmas.List.Elements.{recursion_from_All, All-from_recursion}
+use Rattle.std.proofs.lemmas.List.Elements.{All-from_recursion}
 use Rattle.block_device.specs.DiskSeen.{DiskSeen, HasBlocks}
 use Rattle.block_device.specs.declared.numbered.NumberedDisk.{NumberedDisk}
 use Rattle.block_device.specs.declared.rack.Spec.{Spec}
-use Rattle.volume_disks.specs.declared.volume_spec.VolumeSpec.{VolumeSpec}
 use Rattle.volume_format.specs.vnode_files.declared.vnode.FileInfo.{FileInfo}
 use Rattle.volume_format.specs.vnode_files.Grow.{page_count}
 use Rattle.volume_format.specs.vnode_files.Files.{FilesSeen, block_count}
 use Rattle.volume_format.specs.vnode_files.Vnode.{VnodeSeen, IsSoundVnode, no_vnode}
-use Rattle.volume_format.specs.Table.{TableSeen, no_entry, front_block}
+use Rattle.volume_format.specs.Table.{TableSeen, no_entry}
 use Rattle.volume_format.specs.Volume.{IsVolumeTable, IsVolumeName}
 use Rattle.vm_report.specs.vm_script.declared.plan.SetupLine.{SetupLine}
 use Rattle.vm_report.specs.vm_script.PlanSeen.{PlanSeen}
 use Rattle.vm_report.specs.vm_script.Rules.{broken_rule, amounts_of}
 use Rattle.vm_report.specs.vm_script.Sound.{IsSoundSetup}
 use Rattle.volume_files.specs.declared.stops.Refusal.TheVariants as refusal
-use Rattle.volume_files.specs.Attached.{AreMounted, ArePlaced, FileDisksTell, HasItsBytes, numbered_seen, bare_disks}
+use Rattle.volume_files.specs.Attached.{AreMounted, ArePlaced, HasItsBytes, numbered_seen, bare_disks}
 use Rattle.volume_files.specs.Closed.{StoreFiles, info_at}
 use Rattle.volume_files.specs.Handed.{HandsAll, IsSwapAsGiven, IsSwapFor, SpareBlock}
-use Rattle.volume_files.specs.Opened.{OpenedFile, infos_of, opened_bytes_at, AreAlike, TellsDisks, TellsVolume, setup_volumes, if_few, with_line_files, stored_bytes}
-use Rattle.volume_files.specs.Placing.{KeepThere, Distinct, PlacesFiles, RemainThere, WroteEach, attached_numbers, found_file, found_files}
-use Rattle.volume_files.specs.Placing.{line_files, sizes_by_number, with_file, with_file_pages, filled_pages}
+use Rattle.volume_files.specs.Opened.{OpenedFile, infos_of, opened_bytes_at, setup_volumes, if_few, with_line_files, stored_bytes}
+use Rattle.volume_files.specs.Placing.{KeepThere, Distinct, PlacesFiles, RemainThere, WroteEach, attached_numbers, found_files}
+use Rattle.volume_files.specs.Placing.{line_files, sizes_by_number, with_file_pages}
 use Rattle.volume_files.specs.Written.{disk_sizes, HaveFirstBlocks}
 use Rattle.volume_files.proofs.FoundLemmas.{AllBlocks, found-good, found-stored, own-disk}
 use Rattle.volume_files.proofs.GivenFiles.{comes-to}
-use Rattle.volume_files.proofs.HandLemmas.{SameDisks, same-disks, same-numbers, spec-sizes, plan-numbers, mounted-numbers, opened-is, same_Some}
+use Rattle.volume_files.proofs.HandLemmas.{SameDisks, same-disks, same-numbers, spec-sizes, plan-numbers, mounted-numbers, same_Some}
 use Rattle.volume_files.proofs.LawLemmas.{GoodFiles, LineLaw, good-kept, line-laws, holding-lines, placeable-lines}
-use Rattle.volume_files.proofs.LineLemmas.{Stored, StoredBehind, stored_kept, lines_keep, err-ok, HoldsItsBytes, with_file-on, with_file-off}
+use Rattle.volume_files.proofs.LineLemmas.{Stored, StoredBehind, stored_kept, lines_keep, err-ok, HoldsItsBytes}
 use Rattle.volume_files.proofs.MountedLaws.{differ-at, all_then, all_of, all_mapped}
-use Rattle.volume_files.proofs.OpenLemmas.{TellOrEmpty}
-use Rattle.volume_files.proofs.PageLemmas.{with_pages-untold}
 use Rattle.std.proofs.Math.Seq.{drop-append_seam}
 use Rattle.volume_files.proofs.SparedBlocks.{each-written}
+use Rattle.volume_files.proofs.ToldDisks.{opened-told, told-before}
 use Rattle.volume_files.proofs.PlacedLemmas.{IsSized, all_sized, line_files-are, mounted-volumes, numbers-seen, sizes-seen, at_index}
 
 -- an element by its place
@@ -49,11 +47,6 @@ get_at : {A : Type 0} (xs : List A) (i : ℕ) (x d : A) → slice_get xs i ≡ S
 get_at [] i x d is = absurd (none-or-some x is)
 get_at (y ∷ ys) zero x d is = (omega arith, sym (same_Some y x is))
 get_at (y ∷ ys) (suc i) x d is = let r = get_at ys i x d is in (omega (arith, r.0), r.1)
-
-at_get : {A : Type 0} (xs : List A) (i : ℕ) (d : A) → i < length xs → slice_get xs i ≡ Some (slice_index_or xs i d)
-at_get [] i d below = absurd (omega (arith, below))
-at_get (x ∷ xs) zero d below = refl
-at_get (x ∷ xs) (suc i) d below = at_get xs i d (omega (arith, below))
 
 -- the files that were found are few where all are placed
 few-read : (sizes : ℕ → ℕ) (found after : List OpenedFile) (setup : List SetupLine) → with_line_files sizes (if_few (Ok found)) setup ≡ Ok after → with_line_files sizes (Ok found) setup ≡ Ok after
@@ -122,56 +115,6 @@ one-place (x ∷ ds) distinct (suc i) zero d e is at same =
     apart (y ∷ es) zero ne at same = ne.0 (same ∙ ap (λ (q : ℕ × DiskSeen). q.0) (sym (same_Some y d at)))
     apart (y ∷ es) (suc j) ne at same = apart es j ne.1 at same
 one-place (x ∷ ds) distinct (suc i) (suc j) d e is at same = ap suc (one-place ds distinct.1 i j d e is at same)
-
--- pages that are written don't make a disk tell
-untold-pages : (n : ℕ) (files : List OpenedFile) → with_file_pages n None files ≡ None
-untold-pages n [] = refl
-untold-pages n (f ∷ files) = ap (λ (o : Option (List (List ℕ))). with_file_pages n o files) (untold-file n f.info f.bytes) ∙ untold-pages n files
-  where
-    untold-file : (n : ℕ) (info : FileInfo) (bytes : List ℕ) → with_file n None info bytes ≡ None
-    untold-file n info bytes = elim (cases_eq info.disk n) [
-      | inl on ↦ with_file-on n None info bytes on ∙ with_pages-untold (front_block info.extents) (filled_pages bytes)
-      | inr off ↦ with_file-off n None info bytes off
-    ]
-
--- a disk that tells afterwards told before
-told-before : (n : ℕ) (old new : Option (List (List ℕ))) (files : List OpenedFile) → new ≡ with_file_pages n old files → IsSome new → IsSome old
-told-before n None new files is some = absurd (both_ways false refl (ap is_some (sym (is ∙ untold-pages n files)) ∙ some))
-told-before n (Some blocks) new files is some = refl
-
--- disks that tell told before they were written
-pub told-one : (a b : Option (List (List ℕ))) → (a ≡ None → b ≡ None) → IsSome b → IsSome a
-told-one None b keeps some = absurd (false≢true (ap is_some (sym (keeps refl)) ∙ some))
-told-one (Some x) b keeps some = refl
-
--- What the rack tells of the volumes, in its two parts.
-disks-tell : (holds : Spec → Option (List (List ℕ))) (specs : List VolumeSpec) → AllByRecursion (TellsVolume holds) specs → AllByRecursion (TellsDisks holds) specs
-disks-tell holds [] all = tt
-disks-tell holds (s ∷ specs) all = (all.0.0, disks-tell holds specs all.1)
-
-are-alike : (holds : Spec → Option (List (List ℕ))) (specs : List VolumeSpec) → AllByRecursion (TellsVolume holds) specs → AllByRecursion AreAlike specs
-are-alike holds [] all = tt
-are-alike holds (s ∷ specs) all = (all.0.1, are-alike holds specs all.1)
-
--- Each disk on which one of the files lies told before.
-tell_or_empty : (T : ℕ → Type 0) (specs : List VolumeSpec) (ds : List (ℕ × DiskSeen)) (ts : List TableSeen) → AllByRecursion (λ (d : ℕ × DiskSeen). T d.0 → IsSome d.1.content) ds → AllByRecursion AreAlike specs
-    → AllByRecursion (λ (f : OpenedFile). T f.info.disk) (found_files ds ts) → TellOrEmpty specs ds ts
-tell_or_empty T [] ds ts back alike all = tt
-tell_or_empty T (s ∷ specs) [] ts back alike all = tt
-tell_or_empty T (s ∷ specs) (d ∷ ds) [] back alike all = tt
-tell_or_empty T (s ∷ specs) (d ∷ ds) (t ∷ ts) back alike all = (
-  ((λ e es is. back.0 (subst (λ (xs : List FileInfo). AllByRecursion (λ (f : OpenedFile). T f.info.disk) (map (found_file d) xs ++ found_files ds ts)) is all).0), (λ none. alike.0)),
-  tell_or_empty T specs ds ts back.1 alike.1 (behind (map (found_file d) t.entries) all),
-)
-  where
-    behind : (xs : List OpenedFile) → AllByRecursion (λ (f : OpenedFile). T f.info.disk) (xs ++ found_files ds ts) → AllByRecursion (λ (f : OpenedFile). T f.info.disk) (found_files ds ts)
-    behind [] all = all
-    behind (x ∷ xs) all = behind xs all.1
-
--- the front of files
-all_front : {X : Type 0} (P : X → Type 0) (xs ys : List X) → AllByRecursion P (xs ++ ys) → AllByRecursion P xs
-all_front P [] ys all = tt
-all_front P (x ∷ xs) ys all = (all.0, all_front P xs ys all.1)
 
 -- by places
 all_places : {X : Type 0} (P : X → Type 0) (xs : List X) → ((k : ℕ) (x : X) → k < length xs → x ≡ slice_index_or xs k x → P x) → AllByRecursion P xs
@@ -275,32 +218,6 @@ all-stored seen sizes old new ts setup lines after distinct has sized holds rema
 name-at : (infos : List FileInfo) (k : ℕ) → AllByRecursion (λ (i : FileInfo). IsVolumeName i.name) infos → k < length infos → IsVolumeName (info_at infos k).name
 name-at infos k all below = at_index (λ (i : FileInfo). IsVolumeName i.name) infos k no_entry all below
 
--- where each disk on which a file lies tells, each disk told before or has no files in its table
-told-tables : {D : Type 0} (seen : D → DiskSeen) (old new : List (NumberedDisk D)) (ts : List TableSeen) (after lines : List OpenedFile) → RemainThere seen old new → WroteEach seen lines old new
-    → after ≡ found_files (map (numbered_seen seen) old) ts ++ lines → FileDisksTell (infos_of after) (map (numbered_seen seen) new) → (specs : List VolumeSpec) → AllByRecursion AreAlike specs
-    → TellOrEmpty specs (map (numbered_seen seen) old) ts
-told-tables seen old new ts after lines remain wrote are tell specs alike =
-    let es = map (numbered_seen seen) new in
-    let T : ℕ → Type 0 = λ n. (i : ℕ) (disk : ℕ × DiskSeen) → slice_get es i ≡ Some disk → n ≡ disk.0 → IsSome disk.1.content in
-    let all : AllByRecursion (λ (f : OpenedFile). T f.info.disk) after = all_places (λ (f : OpenedFile). T f.info.disk) after (λ k f below is i disk there on.
-    let inside : k < length (infos_of after) = omega (arith, below, length-map after (λ (g : OpenedFile). g.info)) in
-    let info : info_at (infos_of after) k ≡ f.info = get_or-map (λ (g : OpenedFile). g.info) after k f no_entry below ∙ ap (λ (g : OpenedFile). g.info) (sym is) in
-    tell i k disk there inside (ap (λ (x : FileInfo). x.disk) info ∙ on)) in
-    tell_or_empty T specs (map (numbered_seen seen) old) ts
-    (all_mapped (λ (d : ℕ × DiskSeen). T d.0 → IsSome d.1.content) (numbered_seen seen) old (all_places (λ (d : NumberedDisk _). T d.number → IsSome (seen d.disk).content) old (λ k x below is tells.
-    let e = slice_index_or new k x in
-    let inside : k < length new = omega (arith, below, remain.count) in
-    let within : k < length es = omega (arith, inside, length-map new (numbered_seen seen)) in
-    let at : slice_get es k ≡ Some (numbered_seen seen e) = at_get es k (numbered_seen seen x) within
-    ∙ ap (λ (q : ℕ × DiskSeen). Some q) (get_or-map (numbered_seen seen) new k x (numbered_seen seen x) inside) in
-    let number : x.number ≡ e.number = ap (λ (y : NumberedDisk _). y.number) is ∙ sym (remain.each k x below).number in
-    let content : (seen e.disk).content ≡ with_file_pages x.number (seen x.disk).content lines =
-    wrote k x below ∙ ap (λ (y : NumberedDisk _). with_file_pages y.number (seen y.disk).content lines) (sym is) in
-    told-before x.number (seen x.disk).content (seen e.disk).content lines content (tells k (numbered_seen seen e) at number))))
-    alike
-    (all_front (λ (f : OpenedFile). T f.info.disk) (found_files (map (numbered_seen seen) old) ts) lines
-    (subst (λ (fs : List OpenedFile). AllByRecursion (λ (f : OpenedFile). T f.info.disk) fs) are all))
-
 -- ALL FILES ARE PLACED
 pub placed-all : {D : Type 0} (seen : D → DiskSeen) (plan : PlanSeen) (holds : Spec → Option (List (List ℕ))) (old new : List (NumberedDisk D))
     (ts : List TableSeen) (swap : Option DiskSeen) (files : FilesSeen)
@@ -359,10 +276,7 @@ placed-all {D} seen plan holds old new ts swap files has kept sound m serves bla
             (subst (λ (fs : List OpenedFile). KeepThere seen (SpareBlock fs) old new) (sym (ap (drop (length found)) are ∙ drop-append_seam found lines)) p.keep);
         last = blank;
       };
-      told = λ tells disks_tell.
-          opened-is holds plan ds ts m (disks-tell holds specs (recursion_from_All (TellsVolume holds) specs tells)) blocks
-          (told-tables seen old new ts after lines remain p.wrote are disks_tell specs (are-alike holds specs (recursion_from_All (TellsVolume holds) specs tells)))
-          ∙ ap (λ (xs : List (ℕ × ℕ)). with_line_files (block_count (finite.from_entries xs)) (if_few (Ok found)) plan.setup) (sizes-seen seen old) ∙ p.read;
+      told = λ told. opened-told seen plan holds old ts (Ok after) blocks m p.read (told-before seen old new same told);
       stored = all-stored seen sizes old new ts plan.setup lines after distinct has counts (holding-lines plan.setup (placeable-lines plan kept sound)) remain read are p.wrote;
     }
   where

@@ -1,10 +1,10 @@
 -- The disks of a plan: their numbers, what is handed back of them, and the files as they are opened.
 use Rattle.vm_report.proofs.vm_script.Places.{some_none as none-or-some}
-use Rattle.volume_files.proofs.HeldVolumes.{held_length as held-length}
+use Rattle.volume_files.proofs.HeldVolumes.{held_length as held-length, volume_tells}
 use Rattle.volume_files.proofs.MountDisks.{spec_size}
 use Rattle.volume_files.proofs.MountSpecs.{volume_is}
 use Rattle.std.specs.Prelude.{ℕ, zero, suc, ◌≡◌, ◌≢◌, ◌<◌, ◌≤◌, ◌+◌, ◌==◌, List, [], ◌∷◌, length, map, zip, filter_map, slice_get}
-use Rattle.std.specs.Prelude.{slice_index_or, unwrap_or, Option, Some, None, option_map, Result, Ok}
+use Rattle.std.specs.Prelude.{slice_index_or, unwrap_or, IsSome, Option, Some, None, option_map, Result, Ok}
 use Rattle.std.specs.List.{AllByRecursion, cons_option, range_with_len}
 use Rattle.std.specs.Map.{lookup}
 use Rattle.std.specs.Ordering.{nat_cmp}
@@ -25,11 +25,11 @@ use Rattle.vm_report.specs.vm_script.PlanSeen.{PlanSeen}
 use Rattle.volume_files.specs.declared.stops.Refusal.{Refusal}
 use Rattle.volume_files.specs.Attached.{AreMounted, numbered_seen, bare_disks}
 use Rattle.volume_files.specs.Handed.{HaveSpecSizes, HasSpecSize, volume_numbers}
-use Rattle.volume_files.specs.Opened.{IsVolumeAttached, OpenedFile, TellsDisks, setup_volumes, size_held, mounted_files, if_few, volume_blocks, volume_number, volume_numbered, volumes_held}
+use Rattle.volume_files.specs.Opened.{IsVolumeAttached, OpenedFile, setup_volumes, size_held, mounted_files, if_few, volume_blocks, volume_number, volume_numbered, volumes_held}
 use Rattle.volume_files.specs.Opened.{with_line_files, opened_files}
 use Rattle.volume_files.specs.Placing.{Distinct, RemainsThere, RemainThere, found_files, attached_numbers}
 use Rattle.volume_files.proofs.FoundLemmas.{AllBlocks}
-use Rattle.volume_files.proofs.OpenLemmas.{TellOrEmpty, mounted-found}
+use Rattle.volume_files.proofs.OpenLemmas.{mounted-found}
 
 pub same_Some : {A : Type 0} (x y : A) → Some x ≡ Some y → x ≡ y
 same_Some x y is = cc
@@ -95,7 +95,7 @@ same-numbers seen (d ∷ ds) (e ∷ es) r = let rest = same-numbers seen ds es r
 
 -- the sizes of the volumes
 spec-size : (s : VolumeSpec) (holds : Spec → Option (List (List ℕ))) (d e : DiskSeen) → IsVolumeAttached holds s d → e.size ≡ d.size → HasSpecSize s e
-spec-size (Plain (spec.Blank number n)) holds d e attached same = same ∙ attached.0
+spec-size (Plain (spec.Blank number n)) holds d e attached same = same ∙ attached.0.0
 spec-size (Plain (spec.Path number path)) holds d e attached same = tt
 spec-size (Joined (spec.Blank number n) second mirror) holds d e attached same = same ∙ spec_size (Joined (spec.Blank number n) second mirror) holds d attached
 spec-size (Joined (spec.Path number path) second mirror) holds d e attached same = tt
@@ -138,7 +138,7 @@ lookup-at (n ∷ ns) (x ∷ ds) (suc i) d distinct count below =
 
 -- the sizes of the volumes as the plan is opened
 pub sizes-held : (holds : Spec → Option (List (List ℕ))) (specs : List VolumeSpec) (ds : List (ℕ × DiskSeen)) (ts : List TableSeen) → AreMounted holds specs ds ts
-    → AllByRecursion (TellsDisks holds) specs → AllBlocks ds
+    → AllByRecursion (λ (d : DiskSeen). IsSome d.content) (bare_disks ds) → AllBlocks ds
     → (n : ℕ) → size_held (volumes_held holds specs) n ≡ block_count (finite.from_entries (map (λ (d : ℕ × DiskSeen). (d.0, d.1.size)) ds)) n
 sizes-held holds [] [] [] m tells has n = sym (ap (λ (o : Option ℕ). unwrap_or o 0) (finite.get-empty nat_cmp n))
 sizes-held holds [] [] (t ∷ ts) m tells has n = absurd m
@@ -155,7 +155,7 @@ sizes-held holds (s ∷ specs) (d ∷ ds) (t ∷ ts) m tells has n =
       | inl e ↦
           let same : n ≡ d.0 = sym e ∙ sym m.0.number in
           ap (λ t. unwrap_or (option_map length (cond t (Some here) more)) 0) (eq-eqb (volume_number s) n e)
-          ∙ held-length s holds d.1 m.0.attached tells.0 has.0
+          ∙ held-length s holds d.1 m.0.attached (volume_tells s holds d.1 m.0.attached tells.0) has.0
           ∙ sym (ap (λ (o : Option ℕ). unwrap_or o 0) (left ∙ ap (λ b. cond b (Some d.1.size) (finite.get rest n)) (eq-eqb n d.0 same)))
       | inr ne ↦
           let other : n ≡ d.0 → ⊥ = λ e. ne (sym (e ∙ m.0.number)) in
@@ -166,11 +166,11 @@ sizes-held holds (s ∷ specs) (d ∷ ds) (t ∷ ts) m tells has n =
 
 -- THE FILES AS THEY ARE OPENED are those that were found, and then those of the lines
 pub opened-is : (holds : Spec → Option (List (List ℕ))) (plan : PlanSeen) (ds : List (ℕ × DiskSeen)) (ts : List TableSeen) → AreMounted holds (setup_volumes plan.setup) ds ts
-    → AllByRecursion (TellsDisks holds) (setup_volumes plan.setup) → AllBlocks ds → TellOrEmpty (setup_volumes plan.setup) ds ts
+    → AllByRecursion (λ (d : DiskSeen). IsSome d.content) (bare_disks ds) → AllBlocks ds
     → opened_files plan holds ≡ with_line_files (block_count (finite.from_entries (map (λ (d : ℕ × DiskSeen). (d.0, d.1.size)) ds))) (if_few (Ok (found_files ds ts))) plan.setup
-opened-is holds plan ds ts m tells has empty =
+opened-is holds plan ds ts m tells has =
     let sizes : size_held (volumes_held holds (setup_volumes plan.setup)) ≡ block_count (finite.from_entries (map (λ (d : ℕ × DiskSeen). (d.0, d.1.size)) ds)) =
     λ i n. sizes-held holds (setup_volumes plan.setup) ds ts m tells has n i in
     ap (λ (f : ℕ → ℕ). with_line_files f (if_few (mounted_files holds (setup_volumes plan.setup))) plan.setup) sizes
     ∙ ap (λ (r : Result (List OpenedFile) Refusal). with_line_files (block_count (finite.from_entries (map (λ (d : ℕ × DiskSeen). (d.0, d.1.size)) ds))) (if_few r) plan.setup)
-    (mounted-found holds (setup_volumes plan.setup) ds ts m tells empty)
+    (mounted-found holds (setup_volumes plan.setup) ds ts m tells)

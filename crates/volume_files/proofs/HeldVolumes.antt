@@ -17,8 +17,17 @@ use Rattle.volume_disks.specs.declared.volume_spec.VolumeSpec.TheVariants.{Plain
 use Rattle.volume_format.specs.Table.{TableSeen}
 use Rattle.volume_files.specs.declared.stops.Refusal.{Refusal}
 use Rattle.volume_files.specs.Mounting.{Holds}
-use Rattle.volume_files.specs.Opened.{AreJoined, IsVolumeAttached, TellsSpec, TellsDisks, blocks_held, content_held, volume_content, held_size, joined_content, sizes_refused, size_refusal, table_on, told_table}
+use Rattle.volume_files.specs.Opened.{AreJoined, IsVolumeAttached, blocks_held, content_held, volume_content, held_size, joined_content, sizes_refused, size_refusal, table_on, told_table}
 use Rattle.volume_files.specs.Opened.{unless_refused, volume_blocks, volume_number, volume_table}
+
+-- The rack tells what it holds for the disk of a spec, where that is by path; or for each disk of a volume.
+abbrev pub TellsSpec : Holds → Spec → Type 0
+TellsSpec holds (spec.Blank number blocks) = Unit {0}
+TellsSpec holds (spec.Path number path) = IsSome (holds (spec.Path number path))
+
+abbrev pub TellsDisks : Holds → VolumeSpec → Type 0
+TellsDisks holds (Plain s) = TellsSpec holds s
+TellsDisks holds (Joined first second mirror) = TellsSpec holds first × TellsSpec holds second
 
 -- What a disk that tells holds is what the rack held for its spec.
 pub spec_held : (s : Spec) (holds : Holds) (d : DiskSeen) (blocks : List (List ℕ)) → IsAttached s (holds s) d → d.content ≡ Some blocks → blocks_held holds s ≡ blocks
@@ -83,16 +92,16 @@ module _ (holds : Holds) (first second : Spec) (mirror : Bool) (d : DiskSeen) (j
 
 -- THE SAME OF ANY VOLUME
 pub held_told : (s : VolumeSpec) (holds : Holds) (d : DiskSeen) (blocks : List (List ℕ)) → IsVolumeAttached holds s d → d.content ≡ Some blocks → volume_blocks holds s ≡ blocks
-held_told (Plain s) holds d blocks a e = spec_held s holds d blocks a e
-held_told (Joined first second mirror) holds d blocks a e = joined-held holds first second mirror d a blocks e
+held_told (Plain s) holds d blocks a e = spec_held s holds d blocks a.0 e
+held_told (Joined first second mirror) holds d blocks a e = joined-held holds first second mirror d a.0 blocks e
 
 pub volume_tells : (s : VolumeSpec) (holds : Holds) (d : DiskSeen) → IsVolumeAttached holds s d → IsSome d.content → TellsDisks holds s
-volume_tells (Plain s) holds d a some = spec_tells s holds d a some
-volume_tells (Joined first second mirror) holds d a some = joined-tells holds first second mirror d a some
+volume_tells (Plain s) holds d a some = spec_tells s holds d a.0 some
+volume_tells (Joined first second mirror) holds d a some = joined-tells holds first second mirror d a.0 some
 
 pub volume_fit : (s : VolumeSpec) (holds : Holds) (d : DiskSeen) → IsVolumeAttached holds s d → TellsDisks holds s → sizes_refused holds s ≡ None
 volume_fit (Plain s) holds d a tells = refl
-volume_fit (Joined first second mirror) holds d a tells = joined-fit holds first second mirror d a tells.0 tells.1
+volume_fit (Joined first second mirror) holds d a tells = joined-fit holds first second mirror d a.0 tells.0 tells.1
 
 -- what block 0 of a volume that tells says, the rack says
 pub told_volume : (s : VolumeSpec) (holds : Holds) (d : DiskSeen) (r : Result TableSeen ℕ) → IsVolumeAttached holds s d → IsSome d.content → IfSome d.content (λ blocks. table_on blocks ≡ r)
@@ -116,14 +125,15 @@ same-sizes first second x y e = by_first (is_volume_size x) (is_volume_size y) (
     by_first false c t is e = absurd (cc e)
 
 pub held_length : (s : VolumeSpec) (holds : Holds) (d : DiskSeen) → IsVolumeAttached holds s d → TellsDisks holds s → HasBlocks d.content d.size → length (volume_blocks holds s) ≡ d.size
-held_length (Plain s) holds d a tells has = spec_long s holds d a tells has
+held_length (Plain s) holds d a tells has = spec_long s holds d a.0 tells has
 held_length (Joined first second false) holds d a tells has =
-    let one = spec_long first holds a.a a.one tells.0 a.one_whole in
-    let two = spec_long second holds a.b a.two tells.1 a.two_whole in
-    let same = same-sizes (spec_number first) (spec_number second) a.a.size a.b.size a.fit in
-    let size = a.size in
+    let j = a.0 in
+    let one = spec_long first holds j.a j.one tells.0 j.one_whole in
+    let two = spec_long second holds j.b j.two tells.1 j.two_whole in
+    let same = same-sizes (spec_number first) (spec_number second) j.a.size j.b.size j.fit in
+    let size = j.size in
     length-stripe_blocks (blocks_held holds first) (blocks_held holds second) ∙ omega (arith, one, two, same, size)
-held_length (Joined first second true) holds d a tells has = spec_long first holds a.a a.one tells.0 a.one_whole ∙ sym a.size
+held_length (Joined first second true) holds d a tells has = let j = a.0 in spec_long first holds j.a j.one tells.0 j.one_whole ∙ sym j.size
 
 -- what the rack tells of a volume, the volume tells
 spec-told : (s : Spec) (holds : Holds) (d : DiskSeen) (blocks : List (List ℕ)) → IsAttached s (holds s) d → content_held holds s ≡ Some blocks → d.content ≡ Some blocks
@@ -131,15 +141,15 @@ spec-told (spec.Blank number n) holds d blocks a e = absurd (cc e)
 spec-told (spec.Path number path) holds d blocks a e = a ∙ e
 
 pub volume_told : (s : VolumeSpec) (holds : Holds) (d : DiskSeen) (blocks : List (List ℕ)) → IsVolumeAttached holds s d → volume_content holds s ≡ Some blocks → d.content ≡ Some blocks
-volume_told (Plain s) holds d blocks a e = spec-told s holds d blocks a e
-volume_told (Joined first second mirror) holds d blocks j e = j.content ∙ by_mirror mirror e
+volume_told (Plain s) holds d blocks a e = spec-told s holds d blocks a.0 e
+volume_told (Joined first second mirror) holds d blocks a e = a.0.content ∙ by_mirror mirror e
   where
-    both : (make : List (List ℕ) → List (List ℕ) → List (List ℕ)) → content_of_both make (content_held holds first) (content_held holds second) ≡ Some blocks → content_of_both make j.a.content j.b.content ≡ Some blocks
+    both : (make : List (List ℕ) → List (List ℕ) → List (List ℕ)) → content_of_both make (content_held holds first) (content_held holds second) ≡ Some blocks → content_of_both make a.0.a.content a.0.b.content ≡ Some blocks
     both make e =
         let t = both-told make (content_held holds first) (content_held holds second) blocks e in
-        ap (λ (o : Option (List (List ℕ))). content_of_both make o j.b.content) (spec-told first holds j.a t.0 j.one t.2)
-        ∙ ap (content_of_both make (Some t.0)) (spec-told second holds j.b t.1 j.two t.3) ∙ ap (λ (bs : List (List ℕ)). Some bs) t.4
+        ap (λ (o : Option (List (List ℕ))). content_of_both make o a.0.b.content) (spec-told first holds a.0.a t.0 a.0.one t.2)
+        ∙ ap (content_of_both make (Some t.0)) (spec-told second holds a.0.b t.1 a.0.two t.3) ∙ ap (λ (bs : List (List ℕ)). Some bs) t.4
 
-    by_mirror : (m : Bool) → joined_content m (content_held holds first) (content_held holds second) ≡ Some blocks → joined_content m j.a.content j.b.content ≡ Some blocks
+    by_mirror : (m : Bool) → joined_content m (content_held holds first) (content_held holds second) ≡ Some blocks → joined_content m a.0.a.content a.0.b.content ≡ Some blocks
     by_mirror false e = both stripe_blocks e
     by_mirror true e = both (λ xs ys. xs) e

@@ -1,7 +1,7 @@
 -- The numbers of the disks of volumes differ.
-use Rattle.std.proofs.Common.{◌≡◌, ◌≢◌, ℕ, zero, suc, ◌+◌, ◌<◌, ◌≤◌, Bool, true, false, List, [], ◌∷◌, Option, Some, None, refl, sym, ap, ◌∙◌, subst, cond, arith}
-use Rattle.std.specs.Prelude.{count_by, is_some, nat_le, not, option_and_then, option_map, ◌==◌, ◌&&◌, ◌||◌, if◌then◌else◌}
-use Rattle.std.specs.List.{cons_option, find, list_any}
+use Rattle.std.proofs.Common.{◌≡◌, ◌≢◌, ℕ, ◌<◌, ◌≤◌, Bool, true, false, List, [], ◌∷◌, Option, Some, None, refl, sym, ap, ◌∙◌, subst, cond, arith}
+use Rattle.std.specs.Prelude.{count_by, is_some, nat_le, not, option_and_then, option_map, ◌==◌, ◌||◌, if◌then◌else◌}
+use Rattle.std.specs.List.{find, list_any}
 use Rattle.std.proofs.lemmas.Bool.{eqb-true, eq-eqb, false≢true}
 use Rattle.std.proofs.lemmas.Bool.Decides.{nat_tests}
 use Rattle.block_device.specs.RackSeen.{spec_number}
@@ -11,13 +11,16 @@ use Rattle.vm_report.specs.vm_script.declared.plan.SetupAct.{SetupAct}
 use Rattle.vm_report.specs.vm_script.declared.plan.SetupAct.TheVariants as given
 use Rattle.vm_report.specs.vm_script.declared.plan.SetupLine.{SetupLine}
 use Rattle.vm_report.specs.vm_script.Rules.{broken_join, can_be_joined, gives_again, gives_disk, has_wrong_disk, is_from_to, is_right_disk, is_wrong_first, is_wrong_join, is_wrong_second, joins_disk, lays_file_on}
+use Rattle.vm_report.proofs.flat_model.Ranges.{both_true}
+use Rattle.vm_report.proofs.vm_script.GivenDisks.{not_false}
+use Rattle.volume_format.proofs.vnode_files.LayoutLemmas.{count-cons}
 use Rattle.volume_disks.specs.Volumes.{HasTwoNumbers, second_spec}
 use Rattle.volume_disks.specs.declared.volume_spec.VolumeSpec.{VolumeSpec}
 use Rattle.volume_disks.specs.declared.volume_spec.VolumeSpec.TheVariants.{Plain, Joined}
 use Rattle.volume_files.specs.Mounting.{Holds, IsOtherDisk}
 use Rattle.volume_files.specs.Opened.{disk_numbered, given_disk, is_second, joined_by, joined_to, second_numbered, volume_numbered, with_second}
-use Rattle.volume_files.proofs.MountDisks.{AreOther, HoldsAs}
-use Rattle.volume_files.proofs.MountSpecs.{count_cons, numbered_is, specs_from, volume_is}
+use Rattle.volume_files.proofs.MountDisks.{HoldsAs}
+use Rattle.volume_files.proofs.MountSpecs.{numbered_is, volume_is}
 
 or_right : (b : Bool) {c : Bool} → c ≡ true → (b || c) ≡ true
 or_right true e = refl
@@ -26,14 +29,6 @@ or_right false e = e
 or_false : (b c : Bool) → (b || c) ≡ false → (b ≡ false) × (c ≡ false)
 or_false true c e = absurd (false≢true (sym e))
 or_false false c e = (refl, e)
-
-and_true : (b c : Bool) → (b && c) ≡ true → (b ≡ true) × (c ≡ true)
-and_true true c e = (refl, e)
-and_true false c e = absurd (false≢true e)
-
-not_false : (b : Bool) → not b ≡ false → b ≡ true
-not_false true e = refl
-not_false false e = absurd (false≢true (sym e))
 
 -- ---- a line that joins a disk to another
 
@@ -157,14 +152,6 @@ pub not_second : (setup : List SetupLine) (number other : ℕ) (v : VolumeSpec) 
 not_second setup number other v e some same =
     false≢true (sym (first_of setup number v e) ∙ (ap (λ (n : ℕ). list_any (λ (l : SetupLine). is_second n l.act) setup) same ∙ some))
 
-pub seconds_other : (setup : List SetupLine) (other a n : ℕ) → list_any (λ (l : SetupLine). is_second other l.act) setup ≡ true → AreOther other (specs_from setup a n)
-seconds_other setup other a zero some = tt
-seconds_other setup other a (suc n) some = at (volume_numbered setup a) refl (seconds_other setup other (a + 1) n some)
-  where
-    at : (o : Option VolumeSpec) → volume_numbered setup a ≡ o → AreOther other (specs_from setup (a + 1) n) → AreOther other (cons_option o (specs_from setup (a + 1) n))
-    at None is rest = rest
-    at (Some s) is rest = ((λ e. not_second setup a other s is some (sym (volume_is setup a s is) ∙ e)), rest)
-
 -- The two disks of a volume differ.
 pub two_numbers : (setup : List SetupLine) (number : ℕ) (first second : Spec) (mirror : Bool) → volume_numbered setup number ≡ Some (Joined first second mirror) → spec_number first ≢ spec_number second
 two_numbers setup number first second mirror e same =
@@ -186,11 +173,11 @@ once (l ∷ setup) m k a e = at (λ h. once setup m k a h) (is_some (joined_to m
     at : (joined_by setup m ≡ Some (k, a) → 1 ≤ count_by (λ (x : SetupLine). joins_disk k x.act) setup) → (b : Bool) → front_joins l setup m b ≡ Some (k, a) → 1 ≤ count_by (λ (x : SetupLine). joins_disk k x.act) (l ∷ setup)
     at rest true e =
         let here : ◌≡◌ {A = ℕ} (cond (joins_disk k l.act) 1 0) 1 = ap (λ (b : Bool). cond b 1 0) (second_joins k l.act (line_second m k a l.act e)) in
-        let all = count_cons (λ (x : SetupLine). joins_disk k x.act) l setup in
+        let all = count-cons (λ (x : SetupLine). joins_disk k x.act) l setup in
         omega (arith, here, all)
     at rest false e =
         let more = rest e in
-        let all = count_cons (λ (x : SetupLine). joins_disk k x.act) l setup in
+        let all = count-cons (λ (x : SetupLine). joins_disk k x.act) l setup in
         omega (arith, more, all)
 
 twice : (setup : List SetupLine) (m n k : ℕ) (a b : Bool) → m ≢ n → joined_by setup m ≡ Some (k, a) → joined_by setup n ≡ Some (k, b) → 2 ≤ count_by (λ (l : SetupLine). joins_disk k l.act) setup
@@ -203,16 +190,16 @@ twice (l ∷ setup) m n k a b differ e f = at (λ h i. twice setup m n k a b dif
     at rest true false one two e f =
         let here : ◌≡◌ {A = ℕ} (cond (joins_disk k l.act) 1 0) 1 = ap (λ (c : Bool). cond c 1 0) (second_joins k l.act (line_second m k a l.act e)) in
         let more = once setup n k b f in
-        let all = count_cons (λ (z : SetupLine). joins_disk k z.act) l setup in
+        let all = count-cons (λ (z : SetupLine). joins_disk k z.act) l setup in
         omega (arith, here, more, all)
     at rest false true one two e f =
         let here : ◌≡◌ {A = ℕ} (cond (joins_disk k l.act) 1 0) 1 = ap (λ (c : Bool). cond c 1 0) (second_joins k l.act (line_second n k b l.act f)) in
         let more = once setup m k a e in
-        let all = count_cons (λ (z : SetupLine). joins_disk k z.act) l setup in
+        let all = count-cons (λ (z : SetupLine). joins_disk k z.act) l setup in
         omega (arith, here, more, all)
     at rest false false one two e f =
         let more = rest e f in
-        let all = count_cons (λ (z : SetupLine). joins_disk k z.act) l setup in
+        let all = count-cons (λ (z : SetupLine). joins_disk k z.act) l setup in
         omega (arith, more, all)
 
 -- a second disk whose line breaks no rule can be joined
@@ -246,7 +233,7 @@ none_wrong false e = refl
 pub seconds_differ : (setup : List SetupLine) (m n k : ℕ) (a b : Bool) → broken_join setup ≡ None → m ≢ n → joined_by setup m ≡ Some (k, a) → joined_by setup n ≡ Some (k, b) → ⊥
 seconds_differ setup m n k a b right differ e f =
     let can = second_right setup setup k (second_in setup m k a e) (none_wrong (list_any (λ (l : SetupLine). is_wrong_join setup l.act) setup) right) in
-    let few = (and_true (list_any (λ (l : SetupLine). gives_disk k l.act) setup) (nat_le (count_by (λ (l : SetupLine). joins_disk k l.act) setup) 1) can).1 in
+    let few = (both_true (list_any (λ (l : SetupLine). gives_disk k l.act) setup) (nat_le (count_by (λ (l : SetupLine). joins_disk k l.act) setup) 1) can).1 in
     let low : count_by (λ (l : SetupLine). joins_disk k l.act) setup ≤ 1 = grind (arith, nat_tests, few) in
     let high = twice setup m n k a b differ e f in
     omega (arith, low, high)
@@ -257,7 +244,7 @@ line_low : (number : ℕ) (a : SetupAct) (s : Spec) → is_right_disk a ≡ true
 line_low number (given.Blank disk blocks) s right e =
     let z : ◌≡◌ {A = Option Spec} (Some (spec.Blank disk blocks)) (Some s) = e in
     let same : spec.Blank disk blocks ≡ s = cc in
-    let low = (and_true (nat_le disk 7) (is_from_to 2 16384 blocks) right).0 in
+    let low = (both_true (nat_le disk 7) (is_from_to 2 16384 blocks) right).0 in
     let number_is : disk ≡ spec_number s = ap spec_number same in
     let le : disk ≤ 7 = grind (arith, nat_tests, low) in
     omega (arith, number_is, le)

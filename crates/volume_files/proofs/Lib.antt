@@ -27,6 +27,7 @@ pub mod FoundLemmas
 pub mod HandLemmas
 pub mod PlaceLemmas
 pub mod GivenFiles
+pub mod ToldDisks
 pub mod AllPlaced
 pub mod StopLemmas
 pub mod MountSpecs

@@ -1,6 +1,6 @@
 -- The disks that are attached by a front of a plan's specs.
-use Rattle.std.proofs.Common.{◌≡◌, ◌≢◌, ℕ, zero, suc, ◌≤◌, ◌==◌, Bool, true, false, List, [], ◌∷◌, ◌++◌, length, map, Option, Some, None, Result, Ok, Err, refl, sym, ap, ◌∙◌, subst, cond, arith, ◌<◌, ◌⊎◌, inl, inr}
-use Rattle.std.specs.Prelude.{All, IfOk, IfSome, IsSome, slice_get, slice_index_or, zip, if◌then◌else◌}
+use Rattle.std.proofs.Common.{◌≡◌, ◌≢◌, ℕ, suc, ◌≤◌, ◌==◌, Bool, true, false, List, [], ◌∷◌, ◌++◌, length, map, Option, Some, None, Result, Ok, Err, refl, sym, ap, ◌∙◌, subst, cond, arith, ◌<◌, ◌⊎◌, inl, inr}
+use Rattle.std.specs.Prelude.{All, IfOk, IfSome, IsSome, slice_index_or, zip, if◌then◌else◌}
 use Rattle.std.specs.Map.{lookup}
 use Rattle.std.proofs.lemmas.Bool.{ne_eqb}
 use Rattle.std.proofs.lemmas.Bool.Decides.{nat_tests}
@@ -18,11 +18,11 @@ use Rattle.vm_report.specs.vm_script.Rules.{is_from_to}
 use Rattle.volume_files.specs.declared.stops.Refusal.{Refusal}
 use Rattle.volume_files.specs.declared.stops.Refusal.TheVariants as refusal
 use Rattle.volume_files.specs.Attached.{IsMounted, AreMounted, bare_disks}
-use Rattle.volume_files.specs.Handed.{HasSpecSize, HaveSpecSizes}
+use Rattle.volume_files.specs.Handed.{HasSpecSize}
 use Rattle.volume_format.specs.Volume.{IsVolumeTable}
 use Rattle.volume_files.specs.declared.stops.OpenStop.{OpenStop}
 use Rattle.volume_files.specs.Mounting.{Holds, IsGiven, SaysTableRead}
-use Rattle.volume_files.specs.Opened.{IsVolumeAttached, OpenedFile, joined_size, mounted_file, sizes_refused, table_read, table_of_read, table_on, told_table, unless_refused}
+use Rattle.volume_files.specs.Opened.{HasVolumeBlocks, IsVolumeAttached, OpenedFile, joined_size, mounted_file, sizes_refused, table_read, table_of_read, table_on, told_table, unless_refused}
 use Rattle.volume_files.specs.Opened.{volume_blocks, volume_number, with_mounted, mounted_files}
 use Rattle.volume_files.proofs.HeldVolumes.{told_volume}
 use Rattle.volume_files.specs.Written.{OnlyReads}
@@ -67,9 +67,9 @@ abbrev pub HoldsAs : Holds → Holds → VolumeSpec → Type 0
 HoldsAs holds others (Plain s) = holds s ≡ others s
 HoldsAs holds others (Joined first second mirror) = (holds first ≡ others first) × (holds second ≡ others second)
 
-pub attached_held : (holds others : Holds) (s : VolumeSpec) (d : DiskSeen) → HoldsAs holds others s → IsVolumeAttached holds s d → IsVolumeAttached others s d
-attached_held holds others (Plain s) d e g = subst (λ h. IsAttached s h d) e g
-attached_held holds others (Joined first second mirror) d e g = record {
+blocks_held_so : (holds others : Holds) (s : VolumeSpec) (d : DiskSeen) → HoldsAs holds others s → HasVolumeBlocks holds s d → HasVolumeBlocks others s d
+blocks_held_so holds others (Plain s) d e g = subst (λ h. IsAttached s h d) e g
+blocks_held_so holds others (Joined first second mirror) d e g = record {
   a = g.a;
   b = g.b;
   one = subst (λ h. IsAttached first h g.a) e.0 g.one;
@@ -80,6 +80,9 @@ attached_held holds others (Joined first second mirror) d e g = record {
   size = g.size;
   content = g.content;
 }
+
+pub attached_held : (holds others : Holds) (s : VolumeSpec) (d : DiskSeen) → HoldsAs holds others s → IsVolumeAttached holds s d → IsVolumeAttached others s d
+attached_held holds others s d e g = (blocks_held_so holds others s d e g.0, g.1)
 
 pub given_held : (holds others : Holds) (s : VolumeSpec) (d : ℕ × DiskSeen) → HoldsAs holds others s → IsGiven holds s d → IsGiven others s d
 given_held holds others s d e g = record { number = g.number; attached = attached_held holds others s d.1 e g.attached }
@@ -100,9 +103,9 @@ joined-blank : (mirror : Bool) (n size : ℕ) → size ≡ n → joined_size mir
 joined-blank mirror n size e = ap (joined_size mirror) e
 
 pub spec_size : (s : VolumeSpec) (holds : Holds) (d : DiskSeen) → IsVolumeAttached holds s d → HasSpecSize s d
-spec_size (Plain (spec.Blank number blocks)) holds d a = a.0
+spec_size (Plain (spec.Blank number blocks)) holds d a = a.0.0
 spec_size (Plain (spec.Path number path)) holds d a = tt
-spec_size (Joined (spec.Blank number blocks) second mirror) holds d a = a.size ∙ joined-blank mirror blocks a.a.size a.one.0
+spec_size (Joined (spec.Blank number blocks) second mirror) holds d a = let j = a.0 in j.size ∙ joined-blank mirror blocks j.a.size j.one.0
 spec_size (Joined (spec.Path number path) second mirror) holds d a = tt
 
 pub given_length : (holds : Holds) (specs : List VolumeSpec) (disks : List (ℕ × DiskSeen)) → AreGiven holds specs disks → length (bare_disks disks) ≡ length specs
@@ -110,20 +113,6 @@ given_length holds [] [] h = refl
 given_length holds (s ∷ specs) (d ∷ disks) h = ap suc (given_length holds specs disks h.1)
 given_length holds [] (d ∷ disks) h = absurd h
 given_length holds (s ∷ specs) [] h = absurd h
-
-size_at : (holds : Holds) (specs : List VolumeSpec) (disks : List (ℕ × DiskSeen)) → AreGiven holds specs disks → (i : ℕ) (s : VolumeSpec) (d : DiskSeen)
-    → slice_get specs i ≡ Some s → slice_get (bare_disks disks) i ≡ Some d → HasSpecSize s d
-size_at holds [] [] h i s d es ed = absurd (cc es)
-size_at holds [] (y ∷ disks) h i s d es ed = absurd h
-size_at holds (x ∷ specs) [] h i s d es ed = absurd h
-size_at holds (x ∷ specs) (y ∷ disks) h zero s d es ed =
-    let a : x ≡ s = cc es in
-    let b : y.1 ≡ d = cc ed in
-    subst (λ z. HasSpecSize z d) a (subst (λ z. HasSpecSize x z) b (spec_size x holds y.1 h.0.attached))
-size_at holds (x ∷ specs) (y ∷ disks) h (suc i) s d es ed = size_at holds specs disks h.1 i s d es ed
-
-pub given_sizes : (holds : Holds) (specs : List VolumeSpec) (disks : List (ℕ × DiskSeen)) → AreGiven holds specs disks → HaveSpecSizes specs (bare_disks disks)
-given_sizes holds specs disks h = (given_length holds specs disks h, size_at holds specs disks h)
 
 -- None of these volumes has this number.
 abbrev pub AreOther : ℕ → List VolumeSpec → Type 0

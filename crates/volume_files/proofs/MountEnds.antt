@@ -11,11 +11,11 @@ use Rattle.vm_report.specs.vm_script.Rules.{amounts_of}
 use Rattle.volume_files.specs.declared.stops.OpenStop.{OpenStop}
 use Rattle.volume_files.specs.declared.stops.OpenStop.TheVariants as halt
 use Rattle.volume_files.specs.declared.stops.HandedBack.{HandedBack}
-use Rattle.volume_files.specs.Attached.{StopsEarly, bare_disks, numbered_seen}
+use Rattle.volume_files.specs.Attached.{StopCause, StopsEarly, bare_disks, numbered_seen}
 use Rattle.volume_files.specs.Handed.{AreUntouched, HandsBelow, HandsUnracked, IsCountedBy, IsSwapAsGiven, IsSwapFor}
 use Rattle.volume_files.specs.Mounting.{Holds, HaltsNumber, Halts, UngivenCause}
 use Rattle.volume_files.specs.Opened.{volume_number}
-use Rattle.volume_files.proofs.MountStops.{ungiven_later, Stopped, stopped}
+use Rattle.volume_files.proofs.MountStops.{ungiven_later, stopped}
 
 halts_later : (setup : List SetupLine) (holds : Holds) (old mid new : ℕ) (disks : List (ℕ × DiskSeen)) (how : OpenStop) → old ≤ mid
     → Halts setup holds mid new disks how → Halts setup holds old new disks how
@@ -50,36 +50,23 @@ halts_later setup holds old mid new disks how le h =
 
 pub stopped_later : (plan : PlanSeen) (holds : Holds) (old mid new : ℕ) (swap : Option DiskSeen) (disks : List (ℕ × DiskSeen)) (how : OpenStop) → old ≤ mid
     → IsSwapFor (amounts_of plan.setup).slots swap → IsSwapAsGiven (amounts_of plan.setup).slots swap
-    → Halts plan.setup holds mid new disks how → Stopped plan holds old new (bare_disks disks) swap how
+    → Halts plan.setup holds mid new disks how → StopCause plan holds old new (bare_disks disks) swap how
 stopped_later plan holds old mid new swap disks how le swaps blank h = stopped plan holds old new swap disks how swaps blank (halts_later plan.setup holds old mid new disks how le h)
 
 -- Nothing was attached, not even the swap disk.
-no_disks : (plan : PlanSeen) (holds : Holds) → AreUntouched plan holds [] None
-no_disks plan holds = record { whole = 0; apart = 0; count = refl; each = λ i s d si di. absurd (let z : ◌≡◌ {A = Option DiskSeen} None (Some d) = di in cc); last = tt }
+no_disks : (plan : PlanSeen) (holds : Holds) → AreUntouched plan holds 0 0 [] None
+no_disks plan holds = record { count = refl; each = λ i s d si di. absurd (let z : ◌≡◌ {A = Option DiskSeen} None (Some d) = di in cc); last = tt }
 
-pub swap_stopped : (plan : PlanSeen) (holds : Holds) (old new : ℕ) (how : OpenStop) → 0 < (amounts_of plan.setup).slots → UngivenCause 8 old new how → Stopped plan holds old new [] None how
-swap_stopped plan holds old new (halt.Failed f) some c = record {
-  handed = tt;
-  cause = inl (
-    subst (λ (o : Option (ℕ × ℕ)). MatchOption o (HasRisen old new) (λ counts. IsCountedBy plan [] None f.disk counts.0 counts.1)) (sym c.1) c.2,
-    record {
-      handed = subst (λ (o : Option (ℕ × ℕ)). MatchOption o (HandsUnracked plan [] None f.disk) (λ counts. HandsBelow plan (λ n. nat_le n f.disk) 0 [] None)) (sym c.1)
-          (inl (c.0, some, record { no_disk = refl; no_swap = refl }));
-      first = λ told. inl c.0;
-      same = no_disks plan holds;
-    },
-  );
-}
-swap_stopped plan holds old new halt.Memory some c = record {
-  handed = record {
-    whole = 0;
-    apart = 0;
-    each = (refl, λ i s d si di. absurd (let z : ◌≡◌ {A = Option DiskSeen} None (Some d) = di in cc));
-    first = tt;
-    before = λ h. absurd (omega (arith, h));
-  };
-  cause = no_disks plan holds;
-}
+pub swap_stopped : (plan : PlanSeen) (holds : Holds) (old new : ℕ) (how : OpenStop) → 0 < (amounts_of plan.setup).slots → UngivenCause 8 old new how → StopCause plan holds old new [] None how
+swap_stopped plan holds old new (halt.Failed f) some c = inl (
+  subst (λ (o : Option (ℕ × ℕ)). MatchOption o (HasRisen old new) (λ counts. IsCountedBy plan [] None f.disk counts.0 counts.1)) (sym c.1) c.2,
+  record {
+    handed = subst (λ (o : Option (ℕ × ℕ)). MatchOption o (HandsUnracked plan holds [] None f.disk) (λ counts. HandsBelow plan holds (λ n. nat_le n f.disk) 0 [] None)) (sym c.1)
+        (inl (c.0, some, record { no_disk = refl; no_swap = refl }));
+    first = λ told. inl c.0;
+  },
+)
+swap_stopped plan holds old new halt.Memory some c = record { whole = 0; apart = 0; same = no_disks plan holds; first = tt; before = λ h. absurd (omega (arith, h)) }
 swap_stopped plan holds old new (halt.Refused r) some c = absurd c
 
 pub err_then : {T E : Type 0} (r : Result T E) (P Q : E → Type 0) → ((e : E) → P e → Q e) → IfErr r P → IfErr r Q
@@ -98,14 +85,10 @@ module _ {D : Type 0} (seen : D → DiskSeen) where
   pub early : (plan : PlanSeen) (holds : Holds) (old new : ℕ) (s : HandedBack D) (disks : List (NumberedDisk D)) (swap : Option (NumberedDisk D)) (how : OpenStop)
       → s.why ≡ how → s.disks.items ≡ map (λ (d : NumberedDisk D). d.disk) disks
       → s.swap ≡ option_map (λ (d : NumberedDisk D). d.disk) swap
-      → Stopped plan holds old new (bare_disks (map (numbered_seen seen) disks)) (option_map (λ (d : NumberedDisk D). seen d.disk) swap) how → StopsEarly plan holds old new seen s
+      → StopCause plan holds old new (bare_disks (map (numbered_seen seen) disks)) (option_map (λ (d : NumberedDisk D). seen d.disk) swap) how → StopsEarly plan holds old new seen s
   early plan holds old new s disks swap how ends back last h =
       let items : bare_disks (map (numbered_seen seen) disks) ≡ map seen s.disks.items = same_disks disks ∙ ap (map seen) (sym back) in
       let other : option_map (λ (d : NumberedDisk D). seen d.disk) swap ≡ option_map seen s.swap = same_swap swap ∙ ap (option_map seen) (sym last) in
-      let a : Stopped plan holds old new (map seen s.disks.items) (option_map (λ (d : NumberedDisk D). seen d.disk) swap) how =
-      subst (λ (ds : List DiskSeen). Stopped plan holds old new ds (option_map (λ (d : NumberedDisk D). seen d.disk) swap) how) items h in
-      let b : Stopped plan holds old new (map seen s.disks.items) (option_map seen s.swap) how =
-      subst (λ (o : Option DiskSeen). Stopped plan holds old new (map seen s.disks.items) o how) other a in
-      let e : Stopped plan holds old new (map seen s.disks.items) (option_map seen s.swap) s.why =
-      subst (λ (x : OpenStop). Stopped plan holds old new (map seen s.disks.items) (option_map seen s.swap) x) (sym ends) b in
-      record { handed = e.handed; cause = e.cause }
+      subst (λ (x : OpenStop). StopCause plan holds old new (map seen s.disks.items) (option_map seen s.swap) x) (sym ends)
+      (subst (λ (o : Option DiskSeen). StopCause plan holds old new (map seen s.disks.items) o how) other
+      (subst (λ (ds : List DiskSeen). StopCause plan holds old new ds (option_map (λ (d : NumberedDisk D). seen d.disk) swap) how) items h))

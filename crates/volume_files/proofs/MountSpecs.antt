@@ -13,6 +13,7 @@ use Rattle.vm_report.specs.vm_script.declared.plan.SetupAct.{SetupAct}
 use Rattle.vm_report.specs.vm_script.declared.plan.SetupAct.TheVariants as given
 use Rattle.vm_report.specs.vm_script.declared.plan.SetupLine.{SetupLine}
 use Rattle.vm_report.specs.vm_script.Rules.{gives_disk}
+use Rattle.volume_format.proofs.vnode_files.LayoutLemmas.{count-cons}
 use Rattle.volume_files.specs.Mounting.{specs_below}
 use Rattle.volume_disks.specs.declared.volume_spec.VolumeSpec.{VolumeSpec}
 use Rattle.volume_files.specs.Opened.{given_disk, disk_numbered, is_second, joined_by, joined_to, second_numbered, setup_volumes, volume_number, volume_numbered, with_second}
@@ -88,11 +89,6 @@ specs_split setup m k j e =
 pub specs_more : (setup : List SetupLine) (m : ℕ) (o : Option VolumeSpec) → volume_numbered setup m ≡ o → specs_below setup (m + 1) ≡ specs_below setup m ++ cons_option o []
 specs_more setup m o is = specs_split setup m 1 (m + 1) refl ∙ ap (λ (x : Option VolumeSpec). specs_below setup m ++ cons_option x []) is
 
-pub count_cons : {X : Type 0} (p : X → Bool) (x : X) (xs : List X) → count_by p (x ∷ xs) ≡ cond (p x) 1 0 + count_by p xs
-count_cons p x xs =
-    let start : 0 + cond (p x) 1 0 ≡ cond (p x) 1 0 = omega arith in
-    sum_by-append (λ y. cond (p y) 1 0) (x ∷ []) xs ∙ ap (λ n. n + count_by p xs) start
-
 pub count_all : (p : ℕ → Bool) (setup : List SetupLine) (a n : ℕ) → ((x : ℕ) → a ≤ x → x < a + n → p x ≡ true)
     → count_by p (map volume_number (specs_from setup a n)) ≡ length (specs_from setup a n)
 count_all p setup a zero passing = refl
@@ -105,7 +101,7 @@ count_all p setup a (suc n) passing =
     at (Some s) is rest here =
         let passes : p (volume_number s) ≡ true = ap p (volume_is setup a s is) ∙ here in
         let sum : 1 + count_by p (map volume_number (specs_from setup (a + 1) n)) ≡ suc (length (specs_from setup (a + 1) n)) = omega (arith, rest) in
-        count_cons p (volume_number s) (map volume_number (specs_from setup (a + 1) n)) ∙ (ap (λ b. cond b 1 0 + count_by p (map volume_number (specs_from setup (a + 1) n))) passes ∙ sum)
+        count-cons p (volume_number s) (map volume_number (specs_from setup (a + 1) n)) ∙ (ap (λ b. cond b 1 0 + count_by p (map volume_number (specs_from setup (a + 1) n))) passes ∙ sum)
 
 pub count_none : (p : ℕ → Bool) (setup : List SetupLine) (a n : ℕ) → ((x : ℕ) → a ≤ x → p x ≡ false) → count_by p (map volume_number (specs_from setup a n)) ≡ 0
 count_none p setup a zero failing = refl
@@ -118,7 +114,7 @@ count_none p setup a (suc n) failing =
     at (Some s) is rest here =
         let passes : p (volume_number s) ≡ false = ap p (volume_is setup a s is) ∙ here in
         let sum : 0 + count_by p (map volume_number (specs_from setup (a + 1) n)) ≡ 0 = omega (arith, rest) in
-        count_cons p (volume_number s) (map volume_number (specs_from setup (a + 1) n)) ∙ (ap (λ b. cond b 1 0 + count_by p (map volume_number (specs_from setup (a + 1) n))) passes ∙ sum)
+        count-cons p (volume_number s) (map volume_number (specs_from setup (a + 1) n)) ∙ (ap (λ b. cond b 1 0 + count_by p (map volume_number (specs_from setup (a + 1) n))) passes ∙ sum)
 
 -- How many of the disks have a number that passes a test: those below a number where these pass alone.
 pub count_below : (p : ℕ → Bool) (setup : List SetupLine) (m k : ℕ) → m + k ≡ 8 → ((x : ℕ) → x < m → p x ≡ true) → ((x : ℕ) → m ≤ x → p x ≡ false)

@@ -1,10 +1,8 @@
 -- What is handed back, and why, where the attaching stopped.
 use Rattle.volume_files.proofs.StopLemmas.{front_swap as swap_front}
 use Rattle.std.proofs.Common.{◌≡◌, ℕ, suc, ◌+◌, ◌-◌, ◌<◌, ◌≤◌, ◌==◌, Bool, true, false, List, [], ◌∷◌, ◌++◌, length, map, Option, Some, None, Result, Ok, Err}
-use Rattle.std.proofs.Common.{refl, sym, ap, ◌∙◌, ◌⊎◌, ◌≢◌, subst, arith, append-nil, append_assoc, inl, inr, replicate}
+use Rattle.std.proofs.Common.{refl, sym, ap, ◌∙◌, subst, arith, append-nil, append_assoc, inl, inr}
 use Rattle.std.proofs.Math.Seq.{take-append_seam}
-use Rattle.std.proofs.lemmas.Bool.{both_ways, eq-eqb}
-use Rattle.std.proofs.lemmas.List.{length-replicate}
 use Rattle.std.specs.Prelude.{IsSomeAnd, All, IfErr, IfSome, IsOk, MatchOption, nat_lt, nat_le, option_and_then, slice_get, zip, take, if◌then◌else◌}
 use Rattle.std.specs.List.{Contains, cons_option}
 use Rattle.std.specs.Map.{lookup}
@@ -16,9 +14,7 @@ use Rattle.block_device.specs.DiskSeen.{DiskSeen, HasBlocks}
 use Rattle.block_device.specs.RackSeen.{spec_number}
 use Rattle.block_device.specs.OpenSeen.{OpenFaultSeen}
 use Rattle.block_device.specs.declared.rack.Spec.{Spec}
-use Rattle.volume_disks.specs.Volumes.{is_volume_size, second_spec, size_fault}
-use Rattle.volume_disks.specs.declared.stops.VolumeStop.{VolumeStop}
-use Rattle.volume_disks.specs.declared.stops.VolumeStop.TheVariants as unfit
+use Rattle.volume_disks.specs.Volumes.{second_spec, size_fault}
 use Rattle.volume_disks.specs.declared.volume_spec.VolumeSpec.{VolumeSpec}
 use Rattle.volume_disks.specs.declared.volume_spec.VolumeSpec.TheVariants.{Plain, Joined}
 use Rattle.volume_format.specs.Table.{TableSeen}
@@ -29,19 +25,18 @@ use Rattle.volume_files.specs.declared.stops.OpenStop.{OpenStop}
 use Rattle.volume_files.specs.declared.stops.OpenStop.TheVariants as halt
 use Rattle.volume_files.specs.declared.stops.Refusal.{Refusal}
 use Rattle.volume_files.specs.declared.stops.Refusal.TheVariants as refusal
-use Rattle.volume_files.specs.Attached.{AreMounted, StopCause, HandsStopped, bare_disks}
-use Rattle.volume_files.specs.Handed.{HasBadTable, HaveTold, HaveSpecSizes, IsSwapAsGiven, IsSwapFor, IsCountedBy, AreAsGiven, AreUntouched, HandsFront}
-use Rattle.volume_files.specs.Handed.{BreaksLine, HandsApart, HandsBelow, HandsUnracked, HasDiskNumbered, NoneBreaksBefore, disk_handed, disk_stopped, disks_apart, handed_specs, volume_numbers}
+use Rattle.volume_files.specs.Attached.{AreMounted, StopCause, bare_disks}
+use Rattle.volume_files.specs.Handed.{HaveTold, IsSwapAsGiven, IsSwapFor, IsCountedBy, AreAsGiven, AreUntouched, HandsFront, BreaksSizes}
+use Rattle.volume_files.specs.Handed.{HandsApart, HandsBelow, HandsUnracked, HasDiskNumbered, NoneBreaksBefore, disk_handed, disks_apart, handed_specs, volume_numbers}
 use Rattle.volume_files.specs.Mounting.{Holds, specs_below, IsGiven, UnreadCause, UngivenCause, UnfitCause, MountsOne, MountsNumber, HaltsSpec, HaltsNumber, Halts}
 use Rattle.volume_files.specs.Opened.{OpenedFile, held_size, mounted_files, opened_files, setup_volumes, size_held, size_refusal, sizes_refused, if_few, with_line_files, table_on}
 use Rattle.volume_files.specs.Opened.{volume_number, volume_numbered, volume_specs, volumes_held}
 use Rattle.volume_files.proofs.HeldVolumes.{spec_long, spec_tells}
-use Rattle.volume_files.proofs.JoinedNumbers.{second_of, seconds_other, two_numbers}
 use Rattle.volume_files.proofs.FaultCauses.{if-counted}
 use Rattle.volume_files.proofs.GivenFiles.{as-given}
 use Rattle.volume_files.proofs.MountSpecs.{volume_is, specs_from, specs_split, specs_more, count_below, low_specs}
-use Rattle.volume_files.proofs.MountDisks.{AreGiven, AreOther, HoldsAs, given_of_mounted, given_push, mounted_push, given_held, mounted_held, given_length, given_sizes}
-use Rattle.volume_files.proofs.MountDisks.{low_other, lookup_given, mounted_err, mounted_here, mounted_ok, Told, all_last, size-bad, unfit_here}
+use Rattle.volume_files.proofs.MountDisks.{AreGiven, AreOther, HoldsAs, given_of_mounted, given_push, mounted_push, given_held, mounted_held, given_length}
+use Rattle.volume_files.proofs.MountDisks.{low_other, lookup_given, mounted_err, mounted_here, mounted_ok, Told, all_last, unfit_here}
 
 -- One more number.
 pub mount_step : (setup : List SetupLine) (number : ℕ) (holds others : Holds) (old new : List (ℕ × DiskSeen)) (tables_old tables_new : List TableSeen)
@@ -136,22 +131,11 @@ pub opened_err : (plan : PlanSeen) (holds : Holds) (r : Refusal) → mounted_fil
 opened_err plan holds r e =
     ap (λ (m : Result (List OpenedFile) Refusal). with_line_files (size_held (volumes_held holds (setup_volumes plan.setup))) (if_few m) plan.setup) e
 
--- the fault of two sizes by the tests
-abbrev fault_by : ℕ → ℕ → Bool → Bool → Bool → Option VolumeStop
-fault_by first second x y z = if x then (if y then (if z then None else Some unfit.Unequal) else Some (unfit.Size second)) else Some (unfit.Size first)
-
-other_push : (number : ℕ) (specs : List VolumeSpec) (s : VolumeSpec) → AreOther number specs → volume_number s ≢ number → AreOther number (specs ++ s ∷ [])
-other_push number [] s other ne = (ne, tt)
-other_push number (x ∷ specs) s other ne = (other.0, other_push number specs s other.1 ne)
-
 all_two : (disks : List DiskSeen) (a b : DiskSeen) → All Told (disks ++ a ∷ b ∷ []) → All Told disks × (Told a × Told b)
 all_two disks a b told =
     let last = all_last (disks ++ a ∷ []) b (subst (λ (ds : List DiskSeen). All Told ds) (sym (append_assoc disks (a ∷ []) (b ∷ []))) told) in
     let rest = all_last disks a last.0 in
     (rest.0, (rest.1, last.1))
-
-some-same : (q r : Refusal) → Some q ≡ Some r → q ≡ r
-some-same q r e = cc e
 
 -- the volumes below a number, and what stands at its place
 below_front : (plan : PlanSeen) (m k : ℕ) → m + k ≡ 8 → take (length (specs_below plan.setup m)) (volume_specs plan) ≡ specs_below plan.setup m
@@ -171,31 +155,26 @@ below_place plan m k all s is =
 module _ (plan : PlanSeen) (holds : Holds) (swap : Option DiskSeen) (swaps : IsSwapFor (amounts_of plan.setup).slots swap) (blank : IsSwapAsGiven (amounts_of plan.setup).slots swap)
     (m k : ℕ) (all : m + k ≡ 8) (apart : ℕ) (specs : List VolumeSpec) (is : handed_specs plan (length (specs_below plan.setup m)) apart ≡ specs)
     (disks : List (ℕ × DiskSeen)) (given : AreGiven holds specs disks) where
-  sizes : HaveSpecSizes (handed_specs plan (length (specs_below plan.setup m)) apart) (bare_disks disks)
-  sizes = subst (λ (xs : List VolumeSpec). HaveSpecSizes xs (bare_disks disks)) (sym is) (given_sizes holds specs disks given)
+  untouched : AreUntouched plan holds (length (specs_below plan.setup m)) apart (bare_disks disks) swap
+  untouched = record {
+    count = given_length holds specs disks given ∙ ap (λ (xs : List VolumeSpec). length xs) (sym is);
+    each = subst (λ (xs : List VolumeSpec). AreAsGiven holds xs (bare_disks disks)) (sym is) (as-given holds specs disks given);
+    last = blank;
+  }
 
-  pub hands_front : HandsFront plan (bare_disks disks) swap
+  pub hands_front : HandsFront plan holds (bare_disks disks) swap
   hands_front = record {
     whole = length (specs_below plan.setup m);
     apart = apart;
-    each = sizes;
+    same = untouched;
     first = swap_front (amounts_of plan.setup).slots swap swaps;
     before = λ some. swaps;
   }
 
-  pub hands_below : (p : ℕ → Bool) → ((x : ℕ) → x < m → p x ≡ true) → ((x : ℕ) → m ≤ x → p x ≡ false) → HandsBelow plan p apart (bare_disks disks) swap
+  pub hands_below : (p : ℕ → Bool) → ((x : ℕ) → x < m → p x ≡ true) → ((x : ℕ) → m ≤ x → p x ≡ false) → HandsBelow plan holds p apart (bare_disks disks) swap
   hands_below p passing failing = record {
-    each = subst (λ (n : ℕ). HaveSpecSizes (handed_specs plan n apart) (bare_disks disks)) (sym (count_below p plan.setup m k all passing failing)) sizes;
+    same = subst (λ (n : ℕ). AreUntouched plan holds n apart (bare_disks disks) swap) (sym (count_below p plan.setup m k all passing failing)) untouched;
     first = swaps;
-  }
-
-  pub untouched : AreUntouched plan holds (bare_disks disks) swap
-  untouched = record {
-    whole = length (specs_below plan.setup m);
-    apart = apart;
-    count = given_length holds specs disks given ∙ ap (λ (xs : List VolumeSpec). length xs) (sym is);
-    each = subst (λ (xs : List VolumeSpec). AreAsGiven holds xs (bare_disks disks)) (sym is) (as-given holds specs disks given);
-    last = blank;
   }
 
 module _ (plan : PlanSeen) (holds : Holds) (old new : ℕ) (swap : Option DiskSeen) (swaps : IsSwapFor (amounts_of plan.setup).slots swap)
@@ -220,11 +199,8 @@ module _ (plan : PlanSeen) (holds : Holds) (old new : ℕ) (swap : Option DiskSe
         subst (λ (r : Result (List OpenedFile) Refusal). IsOk r) (sym (ap (mounted_files holds) (below_front plan number (suc k) all) ∙ ok.1)) refl,
       )
 
-  unasked_stop : HandsStopped plan (bare_disks front) swap halt.Memory × StopCause plan holds old new (bare_disks front) swap halt.Memory
-  unasked_stop = (
-    hands_front plan holds swap swaps blank number (suc k) all 0 below whole_only front given_front,
-    untouched plan holds swap swaps blank number (suc k) all 0 below whole_only front given_front,
-  )
+  unasked_stop : StopCause plan holds old new (bare_disks front) swap halt.Memory
+  unasked_stop = hands_front plan holds swap swaps blank number (suc k) all 0 below whole_only front given_front
 
   module _ (s : VolumeSpec) (is : volume_numbered plan.setup number ≡ Some s) where
     specs_now : setup_volumes plan.setup ≡ below ++ (s ∷ specs_from plan.setup (number + 1) k)
@@ -242,31 +218,25 @@ module _ (plan : PlanSeen) (holds : Holds) (old new : ℕ) (swap : Option DiskSe
     among : Contains (volume_specs plan) s
     among = subst (λ (xs : List VolumeSpec). Contains xs s) (sym specs_now) (Contains-append_right below (s ∷ specs_from plan.setup (number + 1) k) s (0, omega arith, refl))
 
-    handed_below : HandsBelow plan (λ n. nat_lt n number) 0 (bare_disks front) swap
+    handed_below : HandsBelow plan holds (λ n. nat_lt n number) 0 (bare_disks front) swap
     handed_below =
         hands_below plan holds swap swaps blank number (suc k) all 0 below whole_only front given_front (λ n. nat_lt n number) (λ x lt. grind (arith, nat_tests, lt)) (λ x le. grind (arith, nat_tests, le))
 
     -- the rack failed at a disk of the volume
-    unracked_stop : (disks : List DiskSeen) (n : ℕ) (f : OpenFaultSeen) → f.disk ≡ n → f.counts ≡ None → HasRisen old new → HandsUnracked plan disks swap n → HasDiskNumbered n s
-        → (HaveTold disks swap → All Told (bare_disks front)) → AreUntouched plan holds disks swap
-        → HandsStopped plan disks swap (halt.Failed f) × StopCause plan holds old new disks swap (halt.Failed f)
-    unracked_stop disks n f at none risen handed has told same = (
-      tt,
-      inl (
-        subst (λ o. MatchOption o (HasRisen old new) (λ counts. IsCountedBy plan disks swap f.disk counts.0 counts.1)) (sym none) risen,
-        record {
-          handed = subst (λ o. MatchOption o (HandsUnracked plan disks swap f.disk) (λ counts. HandsBelow plan (λ n. nat_le n f.disk) 0 disks swap)) (sym none)
-              (subst (λ (x : ℕ). HandsUnracked plan disks swap x) (sym at) handed);
-          first = λ tells. subst (NoneBreaksBefore plan holds) (sym at) (none_breaks n s is has (told tells));
-          same = same;
-        },
-      ),
+    unracked_stop : (disks : List DiskSeen) (n : ℕ) (f : OpenFaultSeen) → f.disk ≡ n → f.counts ≡ None → HasRisen old new → HandsUnracked plan holds disks swap n → HasDiskNumbered n s
+        → (HaveTold disks swap → All Told (bare_disks front)) → StopCause plan holds old new disks swap (halt.Failed f)
+    unracked_stop disks n f at none risen handed has told = inl (
+      subst (λ o. MatchOption o (HasRisen old new) (λ counts. IsCountedBy plan disks swap f.disk counts.0 counts.1)) (sym none) risen,
+      record {
+        handed = subst (λ o. MatchOption o (HandsUnracked plan holds disks swap f.disk) (λ counts. HandsBelow plan holds (λ n. nat_le n f.disk) 0 disks swap)) (sym none)
+            (subst (λ (x : ℕ). HandsUnracked plan holds disks swap x) (sym at) handed);
+        first = λ tells. subst (NoneBreaksBefore plan holds) (sym at) (none_breaks n s is has (told tells));
+      },
     )
 
-    bare_stop : (how : OpenStop) → UngivenCause (volume_number s) old new how → HandsStopped plan (bare_disks front) swap how × StopCause plan holds old new (bare_disks front) swap how
+    bare_stop : (how : OpenStop) → UngivenCause (volume_number s) old new how → StopCause plan holds old new (bare_disks front) swap how
     bare_stop (halt.Failed f) c =
         unracked_stop (bare_disks front) number f (c.0 ∙ volume_is plan.setup number s is) c.1 c.2 (inr (inl (named, handed_below))) (inl (volume_is plan.setup number s is)) (λ tells. tells.each)
-        (untouched plan holds swap swaps blank number (suc k) all 0 below whole_only front given_front)
     bare_stop halt.Memory c = unasked_stop
     bare_stop (halt.Refused r) c = absurd c
 
@@ -283,12 +253,9 @@ module _ (plan : PlanSeen) (holds : Holds) (old new : ℕ) (swap : Option DiskSe
       whole_now : handed_specs plan (length upto_specs) 0 ≡ upto_specs
       whole_now = append-nil (take (length upto_specs) (volume_specs plan)) ∙ below_front plan (number + 1) k all_now
 
-      upto : (n : ℕ) → n ≡ number → HandsBelow plan (λ x. nat_le x n) 0 (bare_disks (front ++ d ∷ [])) swap
+      upto : (n : ℕ) → n ≡ number → HandsBelow plan holds (λ x. nat_le x n) 0 (bare_disks (front ++ d ∷ [])) swap
       upto n e = hands_below plan holds swap swaps blank (number + 1) k all_now 0 upto_specs whole_now (front ++ d ∷ []) given_now (λ x. nat_le x n)
           (λ x lt. grind (arith, nat_tests, lt, e)) (λ x le. grind (arith, nat_tests, le, e))
-
-      still : AreUntouched plan holds (bare_disks (front ++ d ∷ [])) swap
-      still = untouched plan holds swap swaps blank (number + 1) k all_now 0 upto_specs whole_now (front ++ d ∷ []) given_now
 
       bare_now : bare_disks (front ++ d ∷ []) ≡ bare_disks front ++ d.1 ∷ []
       bare_now = map-append (λ (x : ℕ × DiskSeen). x.1) front (d ∷ [])
@@ -316,48 +283,35 @@ module _ (plan : PlanSeen) (holds : Holds) (old new : ℕ) (swap : Option DiskSe
           ∙ (ap (λ ds. lookup (λ n. n == number) (zip (map volume_number below ++ number ∷ map volume_number (specs_from plan.setup (number + 1) k)) ds)) bare_now
           ∙ lookup_given holds below front number d.1 (map volume_number (specs_from plan.setup (number + 1) k)) [] given_front low_below))
 
-      upto_numbers : map volume_number upto_specs ≡ map volume_number below ++ number ∷ []
-      upto_numbers = ap (map volume_number) (specs_more plan.setup number (Some s) is) ∙ map-append volume_number below (s ∷ [])
-          ∙ ap (λ (n : ℕ). map volume_number below ++ n ∷ []) (volume_is plan.setup number s is)
-
-      stopped_now : disk_stopped plan (length upto_specs) 0 (bare_disks (front ++ d ∷ [])) number ≡ Some d.1
-      stopped_now =
-          ap (λ (xs : List VolumeSpec). lookup (λ n. n == number) (zip (map volume_number xs) (bare_disks (front ++ d ∷ [])))) whole_now
-          ∙ (ap (λ ns. lookup (λ n. n == number) (zip ns (bare_disks (front ++ d ∷ [])))) upto_numbers
-          ∙ (ap (λ ds. lookup (λ n. n == number) (zip (map volume_number below ++ number ∷ []) ds)) bare_now ∙ lookup_given holds below front number d.1 [] [] given_front low_below))
-
-      unread_stop : (how : OpenStop) → UnreadCause d how → HandsStopped plan (bare_disks (front ++ d ∷ [])) swap how × StopCause plan holds old new (bare_disks (front ++ d ∷ [])) swap how
+      unread_stop : (how : OpenStop) → UnreadCause d how → StopCause plan holds old new (bare_disks (front ++ d ∷ [])) swap how
       unread_stop (halt.Refused (refusal.Volume n rule)) c =
-          let e : n ≡ number = c.0 ∙ (given.number ∙ volume_is plan.setup number s is) in (
-            inl (upto n e),
-            record {
-              told = λ told. refused n rule e c.1 told;
-              line = (
-                length upto_specs,
-                0,
-                subst (λ (o : Option DiskSeen). IsSomeAnd o (λ x. HasBadTable x.size rule)) (sym (ap (disk_stopped plan (length upto_specs) 0 (bare_disks (front ++ d ∷ []))) e ∙ stopped_now)) c.2,
-              );
-              same = still;
-            },
-          )
+          let e : n ≡ number = c.0 ∙ (given.number ∙ volume_is plan.setup number s is) in
+          record {
+            told = λ told. refused n rule e c.1 told;
+            breaks = inl (record {
+              there = subst (λ (m : ℕ). Contains (volume_numbers plan) m) (sym e) named;
+              handed = upto n e;
+              front = bare_disks front;
+              volume = d.1;
+              last = bare_now;
+              breaks = c.2;
+            });
+          }
       unread_stop (halt.Failed f) c =
           let e : f.disk ≡ number = c.number ∙ (given.number ∙ volume_is plan.setup number s is) in
-          let found : disk_handed plan (bare_disks (front ++ d ∷ [])) swap f.disk ≡ Some d.1 = ap (disk_handed plan (bare_disks (front ++ d ∷ [])) swap) e ∙ found_now in (
-            tt,
-            inl (
-              if-counted (HasRisen old new) (λ counts. IsCountedBy plan (bare_disks (front ++ d ∷ [])) swap f.disk counts.0 counts.1)
-                  f.counts c.risen (record { risen = c.risen; disk = d.1; back = found; last = c.last }),
-              record {
-                handed = if-counted (HandsUnracked plan (bare_disks (front ++ d ∷ [])) swap f.disk) (λ counts. HandsBelow plan (λ n. nat_le n f.disk) 0 (bare_disks (front ++ d ∷ [])) swap)
-                    f.counts c.risen (upto f.disk e);
-                first = λ told.
-                    let each = all_last (bare_disks front) d.1 (subst (λ ds. All Told ds) bare_now told.each) in
-                    none_breaks f.disk s is (inl (volume_is plan.setup number s is ∙ sym e)) each.0;
-                same = still;
-              },
-            ),
+          let found : disk_handed plan (bare_disks (front ++ d ∷ [])) swap f.disk ≡ Some d.1 = ap (disk_handed plan (bare_disks (front ++ d ∷ [])) swap) e ∙ found_now in
+          inl (
+            if-counted (HasRisen old new) (λ counts. IsCountedBy plan (bare_disks (front ++ d ∷ [])) swap f.disk counts.0 counts.1)
+                f.counts c.risen (record { risen = c.risen; disk = d.1; back = found; last = c.last }),
+            record {
+              handed = if-counted (HandsUnracked plan holds (bare_disks (front ++ d ∷ [])) swap f.disk) (λ counts. HandsBelow plan holds (λ n. nat_le n f.disk) 0 (bare_disks (front ++ d ∷ [])) swap)
+                  f.counts c.risen (upto f.disk e);
+              first = λ told.
+                  let each = all_last (bare_disks front) d.1 (subst (λ ds. All Told ds) bare_now told.each) in
+                  none_breaks f.disk s is (inl (volume_is plan.setup number s is ∙ sym e)) each.0;
+            },
           )
-      unread_stop halt.Memory c = (hands_front plan holds swap swaps blank (number + 1) k all_now 0 upto_specs whole_now (front ++ d ∷ []) given_now, still)
+      unread_stop halt.Memory c = hands_front plan holds swap swaps blank (number + 1) k all_now 0 upto_specs whole_now (front ++ d ∷ []) given_now
       unread_stop (halt.Refused (refusal.Rule n)) c = absurd c
 
     -- the volume stands for two disks
@@ -370,11 +324,11 @@ module _ (plan : PlanSeen) (holds : Holds) (old new : ℕ) (swap : Option DiskSe
       first_number : spec_number first ≡ number
       first_number = ap volume_number (sym joined) ∙ volume_is plan.setup number s is
 
-      apart_from : (n : ℕ) (disks : List DiskSeen) → HandsBelow plan (λ x. nat_lt x number) n disks swap → HandsApart plan first second n disks swap
+      apart_from : (n : ℕ) (disks : List DiskSeen) → HandsBelow plan holds (λ x. nat_lt x number) n disks swap → HandsApart plan holds first second n disks swap
       apart_from n disks handed = record {
         mirror = mirror;
         there = subst (λ (x : VolumeSpec). Contains (volume_specs plan) x) joined among;
-        handed = subst (λ (y : ℕ). HandsBelow plan (λ x. nat_lt x y) n disks swap) (sym first_number) handed;
+        handed = subst (λ (y : ℕ). HandsBelow plan holds (λ x. nat_lt x y) n disks swap) (sym first_number) handed;
       }
 
       -- the rack failed at the second disk
@@ -382,25 +336,20 @@ module _ (plan : PlanSeen) (holds : Holds) (old new : ℕ) (swap : Option DiskSe
         first_given : AreGiven holds (below ++ Plain first ∷ []) (front ++ d ∷ [])
         first_given = given_push holds below front (Plain first) d given_front given
 
-        first_still : AreUntouched plan holds (bare_disks (front ++ d ∷ [])) swap
-        first_still = untouched plan holds swap swaps blank number (suc k) all 1 (below ++ Plain first ∷ []) (some-apart 1) (front ++ d ∷ []) first_given
-
-        first_handed : HandsBelow plan (λ n. nat_lt n number) 1 (bare_disks (front ++ d ∷ [])) swap
+        first_handed : HandsBelow plan holds (λ n. nat_lt n number) 1 (bare_disks (front ++ d ∷ [])) swap
         first_handed = hands_below plan holds swap swaps blank number (suc k) all 1 (below ++ Plain first ∷ []) (some-apart 1) (front ++ d ∷ []) first_given (λ n. nat_lt n number)
             (λ x lt. grind (arith, nat_tests, lt)) (λ x le. grind (arith, nat_tests, le))
 
-        first_stop : (how : OpenStop) → UngivenCause (spec_number second) old new how
-            → HandsStopped plan (bare_disks (front ++ d ∷ [])) swap how × StopCause plan holds old new (bare_disks (front ++ d ∷ [])) swap how
+        first_stop : (how : OpenStop) → UngivenCause (spec_number second) old new how → StopCause plan holds old new (bare_disks (front ++ d ∷ [])) swap how
         first_stop (halt.Failed f) c =
             unracked_stop (bare_disks (front ++ d ∷ [])) (spec_number second) f c.0 c.1 c.2 (inr (inr (first, second, refl, apart_from 1 (bare_disks (front ++ d ∷ [])) first_handed)))
             (inr (subst (λ (x : VolumeSpec). IsSomeAnd (second_spec x) (λ y. spec_number y ≡ spec_number second)) (sym joined) refl))
-            (λ tells. (all_last (bare_disks front) d.1 (subst (λ ds. All Told ds) (map-append (λ (x : ℕ × DiskSeen). x.1) front (d ∷ [])) tells.each)).0) first_still
-        first_stop halt.Memory c = (hands_front plan holds swap swaps blank number (suc k) all 1 (below ++ Plain first ∷ []) (some-apart 1) (front ++ d ∷ []) first_given, first_still)
+            (λ tells. (all_last (bare_disks front) d.1 (subst (λ ds. All Told ds) (map-append (λ (x : ℕ × DiskSeen). x.1) front (d ∷ [])) tells.each)).0)
+        first_stop halt.Memory c = hands_front plan holds swap swaps blank number (suc k) all 1 (below ++ Plain first ∷ []) (some-apart 1) (front ++ d ∷ []) first_given
         first_stop (halt.Refused r) c = absurd c
 
       -- the two weren't joined
-      module _ (a b : ℕ × DiskSeen) (one : IsGiven holds (Plain first) a) (two : IsGiven holds (Plain second) b) (one_whole : HasBlocks a.1.content a.1.size) (two_whole : HasBlocks b.1.content b.1.size)
-          (other : AreOther (spec_number second) below) (apart : spec_number first ≢ spec_number second) where
+      module _ (a b : ℕ × DiskSeen) (one : IsGiven holds (Plain first) a) (two : IsGiven holds (Plain second) b) (one_whole : HasBlocks a.1.content a.1.size) (two_whole : HasBlocks b.1.content b.1.size) where
         abbrev both : List (ℕ × DiskSeen)
         both = front ++ a ∷ b ∷ []
 
@@ -414,10 +363,7 @@ module _ (plan : PlanSeen) (holds : Holds) (old new : ℕ) (swap : Option DiskSe
             subst (λ (ds : List (ℕ × DiskSeen)). AreGiven holds both_specs ds) (append_assoc front (a ∷ []) (b ∷ []))
             (subst (λ (xs : List VolumeSpec). AreGiven holds xs ((front ++ a ∷ []) ++ b ∷ [])) (append_assoc below (Plain first ∷ []) (Plain second ∷ [])) second_in)
 
-        both_still : AreUntouched plan holds (bare_disks both) swap
-        both_still = untouched plan holds swap swaps blank number (suc k) all 2 both_specs (some-apart 2) both both_given
-
-        both_handed : HandsApart plan first second 2 (bare_disks both) swap
+        both_handed : HandsApart plan holds first second 2 (bare_disks both) swap
         both_handed = apart_from 2 (bare_disks both) (hands_below plan holds swap swaps blank number (suc k) all 2 both_specs (some-apart 2) both both_given (λ n. nat_lt n number)
             (λ x lt. grind (arith, nat_tests, lt)) (λ x le. grind (arith, nat_tests, le)))
 
@@ -428,8 +374,8 @@ module _ (plan : PlanSeen) (holds : Holds) (old new : ℕ) (swap : Option DiskSe
         sizes_told : (r : Refusal) → option_and_then size_refusal (size_fault (a.0, a.1.size) (b.0, b.1.size)) ≡ Some r → HaveTold (bare_disks both) swap → opened_files plan holds ≡ Err r
         sizes_told r e told =
             let last = all_two (bare_disks front) a.1 b.1 (subst (λ ds. All Told ds) bare_both told.each) in
-            let one_held = spec_long first holds a.1 one.attached (spec_tells first holds a.1 one.attached last.1.0) one_whole in
-            let two_held = spec_long second holds b.1 two.attached (spec_tells second holds b.1 two.attached last.1.1) two_whole in
+            let one_held = spec_long first holds a.1 one.attached.0 (spec_tells first holds a.1 one.attached.0 last.1.0) one_whole in
+            let two_held = spec_long second holds b.1 two.attached.0 (spec_tells second holds b.1 two.attached.0 last.1.1) two_whole in
             let refused : sizes_refused holds s ≡ Some r =
             ap (sizes_refused holds) joined
             ∙ ap (option_and_then size_refusal)
@@ -437,120 +383,53 @@ module _ (plan : PlanSeen) (holds : Holds) (old new : ℕ) (swap : Option DiskSe
             let later = mounted_err holds below (s ∷ specs_from plan.setup (number + 1) k) front tables r before last.0 (unfit_here holds s (specs_from plan.setup (number + 1) k) r refused) in
             opened_err plan holds r (ap (mounted_files holds) specs_now ∙ later)
 
-        both_numbers : map volume_number both_specs ≡ map volume_number below ++ spec_number first ∷ spec_number second ∷ []
-        both_numbers = map-append volume_number below (Plain first ∷ Plain second ∷ [])
+        unfit : (r : Refusal) → option_and_then size_refusal (size_fault (a.0, a.1.size) (b.0, b.1.size)) ≡ Some r → BreaksSizes plan holds (bare_disks both) swap r
+        unfit r c = record {
+          first = first;
+          second = second;
+          handed = both_handed;
+          front = bare_disks front;
+          a = a.1;
+          b = b.1;
+          last = bare_both;
+          breaks = ap (λ (n : ℕ). option_and_then size_refusal (size_fault (n, a.1.size) (spec_number second, b.1.size))) (sym one.number)
+              ∙ (ap (λ (n : ℕ). option_and_then size_refusal (size_fault (a.0, a.1.size) (n, b.1.size))) (sym two.number) ∙ c);
+        }
 
-        first_other : AreOther (spec_number first) below
-        first_other = let le : 0 + number ≤ spec_number first = let e = first_number in omega (arith, e) in low_other (spec_number first) below (low_specs plan.setup (spec_number first) 0 number le)
-
-        first_found : disk_stopped plan (length below) 2 (bare_disks both) (spec_number first) ≡ Some a.1
-        first_found =
-            ap (λ (xs : List VolumeSpec). lookup (λ n. n == spec_number first) (zip (map volume_number xs) (bare_disks both))) (some-apart 2)
-            ∙ (ap (λ ns. lookup (λ n. n == spec_number first) (zip ns (bare_disks both))) both_numbers
-            ∙ (ap (λ ds. lookup (λ n. n == spec_number first) (zip (map volume_number below ++ spec_number first ∷ spec_number second ∷ []) ds)) bare_both
-            ∙ lookup_given holds below front (spec_number first) a.1 (spec_number second ∷ []) (b.1 ∷ []) given_front first_other))
-
-        second_found : disk_stopped plan (length below) 2 (bare_disks both) (spec_number second) ≡ Some b.1
-        second_found =
-            let front_given = given_push holds below front (Plain first) a given_front one in
-            let front_other = other_push (spec_number second) below (Plain first) other apart in
-            ap (λ (xs : List VolumeSpec). lookup (λ n. n == spec_number second) (zip (map volume_number xs) (bare_disks both))) (some-apart 2 ∙ sym (append_assoc below (Plain first ∷ []) (Plain second ∷ [])))
-            ∙ (ap (λ ns. lookup (λ n. n == spec_number second) (zip ns (bare_disks both))) (map-append volume_number (below ++ Plain first ∷ []) (Plain second ∷ []))
-            ∙ (ap (λ (ds : List (ℕ × DiskSeen)). lookup (λ n. n == spec_number second) (zip (map volume_number (below ++ Plain first ∷ []) ++ spec_number second ∷ []) (bare_disks ds))) (sym (append_assoc front (a ∷ []) (b ∷ [])))
-            ∙ (ap (λ ds. lookup (λ n. n == spec_number second) (zip (map volume_number (below ++ Plain first ∷ []) ++ spec_number second ∷ []) ds)) (map-append (λ (x : ℕ × DiskSeen). x.1) (front ++ a ∷ []) (b ∷ []))
-            ∙ lookup_given holds (below ++ Plain first ∷ []) (front ++ a ∷ []) (spec_number second) b.1 [] [] front_given front_other)))
-
-        bad_table : (size : ℕ) → is_volume_size size ≡ false → HasBadTable size 0
-        bad_table size bad = (replicate 4096 0, length-replicate {A = ℕ} 4096 0, size-bad (replicate 4096 0) size bad)
-
-        size_line : (n : ℕ) (x : DiskSeen) → disk_stopped plan (length below) 2 (bare_disks both) n ≡ Some x → is_volume_size x.size ≡ false
-            → BreaksLine plan holds (bare_disks both) swap (refusal.Volume n 0)
-        size_line n x found bad = (length below, 2, subst (λ (o : Option DiskSeen). IsSomeAnd o (λ y. HasBadTable y.size 0)) (sym found) (bad_table x.size bad))
-
-        abbrev Unfit : OpenStop → Type 0
-        Unfit how = HandsStopped plan (bare_disks both) swap how × StopCause plan holds old new (bare_disks both) swap how
-
-        unfit_size : (n : ℕ) (x : DiskSeen) → ((spec_number first ≡ n) ⊎ (spec_number second ≡ n)) → disk_stopped plan (length below) 2 (bare_disks both) n ≡ Some x → is_volume_size x.size ≡ false
-            → option_and_then size_refusal (size_fault (a.0, a.1.size) (b.0, b.1.size)) ≡ Some (refusal.Volume n 0) → Unfit (halt.Refused (refusal.Volume n 0))
-        unfit_size n x which found bad e = (
-          inr (first, second, which, both_handed),
-          record { told = sizes_told (refusal.Volume n 0) e; line = size_line n x found bad; same = both_still },
-        )
-
-        unfit_differ : a.1.size ≢ b.1.size → option_and_then size_refusal (size_fault (a.0, a.1.size) (b.0, b.1.size)) ≡ Some (refusal.Rule 15) → Unfit (halt.Refused (refusal.Rule 15))
-        unfit_differ differ e = (
-          inr (refl, (first, second, both_handed)),
-          record { told = sizes_told (refusal.Rule 15) e; line = inr (refl, (bare_disks front, a.1, b.1, bare_both, differ)); same = both_still },
-        )
-
-        unfit_stop : (how : OpenStop) → UnfitCause a b how → Unfit how
-        unfit_stop halt.Memory c = (hands_front plan holds swap swaps blank number (suc k) all 2 both_specs (some-apart 2) both both_given, both_still)
+        unfit_stop : (how : OpenStop) → UnfitCause a b how → StopCause plan holds old new (bare_disks both) swap how
+        unfit_stop halt.Memory c = hands_front plan holds swap swaps blank number (suc k) all 2 both_specs (some-apart 2) both both_given
         unfit_stop (halt.Failed f) c = absurd c
-        unfit_stop (halt.Refused r) c = by_sizes (is_volume_size a.1.size) (is_volume_size b.1.size) (a.1.size == b.1.size) refl refl refl
-          where
-            by_sizes : (x y z : Bool) → is_volume_size a.1.size ≡ x → is_volume_size b.1.size ≡ y → (a.1.size == b.1.size) ≡ z → Unfit (halt.Refused r)
-            by_sizes false y z isx isy isz =
-                let e : option_and_then size_refusal (size_fault (a.0, a.1.size) (b.0, b.1.size)) ≡ Some (refusal.Volume a.0 0) =
-                ap (λ (t : Bool). option_and_then size_refusal (fault_by a.0 b.0 t (is_volume_size b.1.size) (a.1.size == b.1.size))) isx in
-                let same : refusal.Volume a.0 0 ≡ r = some-same (refusal.Volume a.0 0) r (sym e ∙ c) in
-                subst (λ (q : Refusal). Unfit (halt.Refused q)) same
-                (subst (λ (n : ℕ). Unfit (halt.Refused (refusal.Volume n 0))) (sym one.number) (unfit_size (spec_number first) a.1 (inl refl) first_found isx (e ∙ ap (λ (n : ℕ). Some (refusal.Volume n 0)) one.number)))
-            by_sizes true false z isx isy isz =
-                let e : option_and_then size_refusal (size_fault (a.0, a.1.size) (b.0, b.1.size)) ≡ Some (refusal.Volume b.0 0) =
-                ap (λ (t : Bool). option_and_then size_refusal (fault_by a.0 b.0 t (is_volume_size b.1.size) (a.1.size == b.1.size))) isx
-                ∙ ap (λ (t : Bool). option_and_then size_refusal (fault_by a.0 b.0 true t (a.1.size == b.1.size))) isy in
-                let same : refusal.Volume b.0 0 ≡ r = some-same (refusal.Volume b.0 0) r (sym e ∙ c) in
-                subst (λ (q : Refusal). Unfit (halt.Refused q)) same
-                (subst (λ (n : ℕ). Unfit (halt.Refused (refusal.Volume n 0))) (sym two.number) (unfit_size (spec_number second) b.1 (inr refl) second_found isy (e ∙ ap (λ (n : ℕ). Some (refusal.Volume n 0)) two.number)))
-            by_sizes true true false isx isy isz =
-                let e : option_and_then size_refusal (size_fault (a.0, a.1.size) (b.0, b.1.size)) ≡ Some (refusal.Rule 15) =
-                ap (λ (t : Bool). option_and_then size_refusal (fault_by a.0 b.0 t (is_volume_size b.1.size) (a.1.size == b.1.size))) isx
-                ∙ ap (λ (t : Bool). option_and_then size_refusal (fault_by a.0 b.0 true t (a.1.size == b.1.size))) isy
-                ∙ ap (λ (t : Bool). option_and_then size_refusal (fault_by a.0 b.0 true true t)) isz in
-                let same : refusal.Rule 15 ≡ r = some-same (refusal.Rule 15) r (sym e ∙ c) in
-                subst (λ (q : Refusal). Unfit (halt.Refused q)) same (unfit_differ (λ eq. both_ways (a.1.size == b.1.size) isz (eq-eqb a.1.size b.1.size eq)) e)
-            by_sizes true true true isx isy isz =
-                let e : option_and_then size_refusal (size_fault (a.0, a.1.size) (b.0, b.1.size)) ≡ None =
-                ap (λ (t : Bool). option_and_then size_refusal (fault_by a.0 b.0 t (is_volume_size b.1.size) (a.1.size == b.1.size))) isx
-                ∙ ap (λ (t : Bool). option_and_then size_refusal (fault_by a.0 b.0 true t (a.1.size == b.1.size))) isy
-                ∙ ap (λ (t : Bool). option_and_then size_refusal (fault_by a.0 b.0 true true t)) isz in
-                let z : ◌≡◌ {A = Option Refusal} None (Some r) = sym e ∙ c in absurd (cc z)
+        unfit_stop (halt.Refused (refusal.Volume n rule)) c = record { told = sizes_told (refusal.Volume n rule) c; breaks = inr (unfit (refusal.Volume n rule) c) }
+        unfit_stop (halt.Refused (refusal.Rule n)) c = record { told = sizes_told (refusal.Rule n) c; breaks = inr (unfit (refusal.Rule n) c) }
 
 -- What is handed back, and why.
-pub record Stopped (plan : PlanSeen) (holds : Holds) (old new : ℕ) (disks : List DiskSeen) (swap : Option DiskSeen) (how : OpenStop) : Type 0 where
-  pub handed : HandsStopped plan disks swap how
-  pub cause : StopCause plan holds old new disks swap how
-
 pub stopped : (plan : PlanSeen) (holds : Holds) (old new : ℕ) (swap : Option DiskSeen) (disks : List (ℕ × DiskSeen)) (how : OpenStop)
     → IsSwapFor (amounts_of plan.setup).slots swap → IsSwapAsGiven (amounts_of plan.setup).slots swap
-    → Halts plan.setup holds old new disks how → Stopped plan holds old new (bare_disks disks) swap how
+    → Halts plan.setup holds old new disks how → StopCause plan holds old new (bare_disks disks) swap how
 stopped plan holds old new swap disks how swaps blank h = at h.cause
   where
     all : h.number + suc (7 - h.number) ≡ 8
     all = let lt = h.below in omega (arith, lt)
 
-    at : HaltsNumber plan.setup h.number holds old new h.front disks how → Stopped plan holds old new (bare_disks disks) swap how
+    at : HaltsNumber plan.setup h.number holds old new h.front disks how → StopCause plan holds old new (bare_disks disks) swap how
     at (inl m) =
-        let r = unasked_stop plan holds old new swap swaps blank h.number (7 - h.number) all h.front h.tables h.mounted in
-        subst (λ x. Stopped plan holds old new (bare_disks disks) swap x) (sym m.memory)
-        (subst (λ ds. Stopped plan holds old new (bare_disks ds) swap halt.Memory) (sym m.same) (record { handed = r.0; cause = r.1 }))
+        subst (λ x. StopCause plan holds old new (bare_disks disks) swap x) (sym m.memory)
+        (subst (λ ds. StopCause plan holds old new (bare_disks ds) swap halt.Memory) (sym m.same) (unasked_stop plan holds old new swap swaps blank h.number (7 - h.number) all h.front h.tables h.mounted))
     at (inr x) = elim x.2 [
       | inl b ↦
-          let r = bare_stop plan holds old new swap swaps blank h.number (7 - h.number) all h.front h.tables h.mounted x.0 x.1 how b.cause in
-          subst (λ ds. Stopped plan holds old new (bare_disks ds) swap how) (sym b.same) (record { handed = r.0; cause = r.1 })
+          subst (λ ds. StopCause plan holds old new (bare_disks ds) swap how) (sym b.same)
+          (bare_stop plan holds old new swap swaps blank h.number (7 - h.number) all h.front h.tables h.mounted x.0 x.1 how b.cause)
       | inr more ↦ elim more [
         | inl u ↦
-            let r = unread_stop plan holds old new swap swaps blank h.number (7 - h.number) all h.front h.tables h.mounted x.0 x.1 u.disk u.given how u.cause in
-            subst (λ ds. Stopped plan holds old new (bare_disks ds) swap how) (sym u.behind) (record { handed = r.0; cause = r.1 })
+            subst (λ ds. StopCause plan holds old new (bare_disks ds) swap how) (sym u.behind)
+            (unread_stop plan holds old new swap swaps blank h.number (7 - h.number) all h.front h.tables h.mounted x.0 x.1 u.disk u.given how u.cause)
         | inr rest ↦ elim rest [
           | inl f ↦
-              let r = first_stop plan holds old new swap swaps blank h.number (7 - h.number) all h.front h.tables h.mounted x.0 x.1 f.first f.second f.mirror f.joined f.disk f.given how f.cause in
-              subst (λ ds. Stopped plan holds old new (bare_disks ds) swap how) (sym f.behind) (record { handed = r.0; cause = r.1 })
+              subst (λ ds. StopCause plan holds old new (bare_disks ds) swap how) (sym f.behind)
+              (first_stop plan holds old new swap swaps blank h.number (7 - h.number) all h.front h.tables h.mounted x.0 x.1 f.first f.second f.mirror f.joined f.disk f.given how f.cause)
           | inr u ↦
-              let is : volume_numbered plan.setup h.number ≡ Some (Joined u.first u.second u.mirror) = x.1 ∙ ap (λ (v : VolumeSpec). Some v) u.joined in
-              let r = unfit_stop plan holds old new swap swaps blank h.number (7 - h.number) all h.front h.tables h.mounted x.0 x.1 u.first u.second u.mirror u.joined u.a u.b u.one u.two u.one_whole u.two_whole
-              (seconds_other plan.setup (spec_number u.second) 0 h.number (second_of plan.setup h.number u.first u.second u.mirror is)) (two_numbers plan.setup h.number u.first u.second u.mirror is) how u.cause in
-              subst (λ ds. Stopped plan holds old new (bare_disks ds) swap how) (sym u.behind) (record { handed = r.0; cause = r.1 })
+              subst (λ ds. StopCause plan holds old new (bare_disks ds) swap how) (sym u.behind)
+              (unfit_stop plan holds old new swap swaps blank h.number (7 - h.number) all h.front h.tables h.mounted x.0 x.1 u.first u.second u.mirror u.joined u.a u.b u.one u.two u.one_whole u.two_whole how u.cause)
         ]
       ]
     ]

@@ -5,7 +5,7 @@ use Rattle.std.specs.Option.{option_to_list}
 use Rattle.std.proofs.lemmas.List.{map-append}
 use Rattle.std.proofs.lemmas.List.Elements.{All-append, All-cons, All-nil}
 use Rattle.std.proofs.lemmas.List.Sums.{sum_by-append}
-use Rattle.block_device.specs.DiskSeen.{DiskSeen, HasBlocks, failures_told}
+use Rattle.block_device.specs.DiskSeen.{DiskKind, DiskSeen, HasBlocks, failures_told}
 use Rattle.block_device.specs.RackSeen.{IsAttached, RackSeen}
 use Rattle.block_device.specs.declared.numbered.NumberedDisk.{NumberedDisk}
 use Rattle.block_device.specs.declared.rack.Spec.{Spec}
@@ -23,7 +23,7 @@ use Rattle.volume_files.specs.declared.stops.OpenStop.{OpenStop}
 use Rattle.volume_files.specs.Attached.{bare_disks, numbered_seen}
 use Rattle.volume_files.specs.Handed.{members_of}
 use Rattle.volume_files.specs.Mounting.{HaltsSpec, Holds, IsGiven, MountsOne, SaysTableRead, UnreadCause, unmounted_as}
-use Rattle.volume_files.specs.Opened.{IsVolumeAttached, size_refusal, volume_number}
+use Rattle.volume_files.specs.Opened.{HasVolumeBlocks, IsVolumeAttached, size_refusal, volume_number}
 use Rattle.volume_files.specs.Unfailed.{NoneCounted, UnlessFailed}
 use Rattle.volume_files.specs.Written.{OnlyReads}
 use Rattle.volume_files.proofs.Unfailing.{none-told}
@@ -44,7 +44,7 @@ pushed_as f xs ys x d is same = ap (map f) is ∙ (map-append f xs (x ∷ []) �
 
 module _ {D : Type 0} (seen : D → DiskSeen) (has : (d : D) → HasBlocks (seen d).content (seen d).size) (old new : RackSeen) (front : List (ℕ × DiskSeen)) where
   given_one : (s : Spec) (d : NumberedDisk D) → IsDiskFor seen old.holds s d → IsGiven old.holds (Plain s) (numbered_seen seen d)
-  given_one s d one = record { number = one.number; attached = one.attached }
+  given_one s d one = record { number = one.number; attached = (one.attached, one.single) }
 
   none_more : (front ++ []) ++ [] ≡ front
   none_more = append-nil (front ++ []) ∙ append-nil front
@@ -219,9 +219,9 @@ attached_still (spec.Blank number blocks) h d e content size a =
     (size ∙ a.0, subst (λ (o : Option (List (List ℕ))). IfSome o (λ (c : List (List ℕ)). c ≡ replicate blocks (replicate 4096 0))) (sym content) a.1)
 attached_still (spec.Path number path) h d e content size a = content ∙ a
 
-volume_read : (holds : Holds) (v : VolumeSpec) (d e : DiskSeen) → OnlyReads d e → IsVolumeAttached holds v d → IsVolumeAttached holds v e
-volume_read holds (Plain s) d e r a = attached_still s (holds s) d e r.content r.size a
-volume_read holds (Joined first second mirror) d e r j = record {
+blocks_read : (holds : Holds) (v : VolumeSpec) (d e : DiskSeen) → OnlyReads d e → HasVolumeBlocks holds v d → HasVolumeBlocks holds v e
+blocks_read holds (Plain s) d e r a = attached_still s (holds s) d e r.content r.size a
+blocks_read holds (Joined first second mirror) d e r j = record {
   a = j.a;
   b = j.b;
   one = j.one;
@@ -232,6 +232,9 @@ volume_read holds (Joined first second mirror) d e r j = record {
   size = r.size ∙ j.size;
   content = r.content ∙ j.content;
 }
+
+volume_read : (holds : Holds) (v : VolumeSpec) (d e : DiskSeen) → OnlyReads d e → IsVolumeAttached holds v d → IsVolumeAttached holds v e
+volume_read holds v d e r a = (blocks_read holds v d e r a.0, ap (λ (k : DiskKind). k.members) r.kind ∙ a.1)
 
 module _ (holds : Holds) (v : VolumeSpec) (front disks : List (ℕ × DiskSeen)) (d : DiskSeen) (e : ℕ × DiskSeen) (given : IsVolumeAttached holds v d) (reads : OnlyReads d e.1) (number : e.0 ≡ volume_number v)
     (behind : disks ≡ front ++ e ∷ []) where

@@ -1,21 +1,17 @@
 -- A run that stops as its files are placed: what is handed back, and the cause.
 use Rattle.std.specs.Prelude.{All, ℕ, zero, suc, ◌≡◌, ◌<◌, ◌≤◌, ◌==◌, Bool, List, [], ◌∷◌, length, drop, map, zip, slice_index_or, Option, Some, None}
-use Rattle.std.specs.Prelude.{option_map, IfSome, IsSome, is_some, Ok, Err, Result, if◌then◌else◌}
-use Rattle.std.specs.List.{AllByRecursion}
+use Rattle.std.specs.Prelude.{option_map, IfSome, Ok, Err, Result, if◌then◌else◌}
 use Rattle.std.specs.Map.{lookup}
-use Rattle.std.specs.FinMap as finite
-use Rattle.std.proofs.Common.{append-nil, ap, ◌∙◌, sym, subst, refl, arith, inl, inr, take, false}
-use Rattle.std.proofs.lemmas.Bool.{both_ways, ne_eqb}
+use Rattle.std.proofs.Common.{append-nil, ap, ◌∙◌, sym, subst, refl, arith, inl, inr, take}
+use Rattle.std.proofs.lemmas.Bool.{ne_eqb}
 use Rattle.std.proofs.Common.{Vec}
 use Rattle.std.specs.Vec.{with_items}
 use Rattle.std.proofs.lemmas.List.{length-map, take_all, get_or-map, with_items_is}
-use Rattle.std.proofs.lemmas.List.Elements.{All-nil, All-cons, All-head, All-tail, recursion_from_All}
 use Rattle.block_device.specs.DiskSeen.{DiskSeen}
 use Rattle.block_device.specs.OpenSeen.{OpenFaultSeen}
 use Rattle.block_device.specs.declared.numbered.NumberedDisk.{NumberedDisk}
 use Rattle.block_device.specs.declared.rack.Spec.{Spec}
 use Rattle.volume_disks.specs.declared.volume_spec.VolumeSpec.{VolumeSpec}
-use Rattle.volume_format.specs.vnode_files.Files.{block_count}
 use Rattle.volume_format.specs.Table.{TableSeen}
 use Rattle.vm_report.specs.vm_script.PlanSeen.{PlanSeen}
 use Rattle.vm_report.specs.vm_script.Rules.{amounts_of}
@@ -25,19 +21,18 @@ use Rattle.volume_files.specs.declared.stops.Refusal.TheVariants as refusal
 use Rattle.volume_files.specs.declared.stops.HandedBack.{HandedBack}
 use Rattle.volume_files.specs.declared.table_files.PlaceStop.{PlaceStop}
 use Rattle.volume_files.specs.declared.table_files.PlaceStop.TheVariants as stop
-use Rattle.volume_files.specs.Attached.{AreMounted, HandsStopped, StopCause, StopsEarly, numbered_seen, bare_disks}
+use Rattle.volume_files.specs.Attached.{AreMounted, StopCause, StopsEarly, numbered_seen, bare_disks}
 use Rattle.volume_files.specs.Handed.{SpareBlock, AreAsGiven, AreUntouched, HandsAll, HandsFront, HasDiskCause, IsCountedBy, IsSwapAsGiven, IsSwapFor}
-use Rattle.volume_files.specs.Handed.{disk_handed, handed_specs, sizes_of, volume_numbers, HaveSpecSizes}
-use Rattle.volume_files.specs.Opened.{ComesTo, OpenedFile, TellsDisks, if_few, opened_files, setup_volumes, volume_specs, with_line_files}
+use Rattle.volume_files.specs.Handed.{disk_handed, handed_specs, sizes_of, volume_numbers}
+use Rattle.volume_files.specs.Opened.{ComesTo, OpenedFile, setup_volumes, volume_specs}
 use Rattle.volume_files.specs.Placing.{IsFaultThere, PlaceStopped, RemainThere, attached_numbers, open_stop_of, found_files, placing_read}
 use Rattle.volume_files.specs.Written.{disk_sizes}
-use Rattle.volume_files.proofs.AllPlaced.{hands-all, told-one}
+use Rattle.volume_files.proofs.AllPlaced.{hands-all}
 use Rattle.volume_files.proofs.FoundLemmas.{AllBlocks}
-use Rattle.volume_files.proofs.HandLemmas.{SameDisks, lookup-at, mounted-numbers, opened-is, plan-numbers, same-disks, same-numbers}
-use Rattle.volume_files.proofs.OpenLemmas.{TellOrEmpty}
-use Rattle.volume_files.proofs.HeldVolumes.{volume_tells}
-use Rattle.volume_files.proofs.PlacedLemmas.{at_index, numbers-seen, sizes-seen}
+use Rattle.volume_files.proofs.HandLemmas.{SameDisks, lookup-at, mounted-numbers, plan-numbers, same-disks, same-numbers}
+use Rattle.volume_files.proofs.PlacedLemmas.{at_index, numbers-seen}
 use Rattle.volume_files.proofs.SparedBlocks.{each-written}
+use Rattle.volume_files.proofs.ToldDisks.{opened-told, told-before}
 use Rattle.volume_files.proofs.GivenFiles.{as-given, comes-sizes, comes-to, sizes-handed}
 use Rattle.volume_files.proofs.FaultCauses.{if-counted}
 use Rattle.volume_files.proofs.MountDisks.{Told, given_length, given_of_mounted}
@@ -51,38 +46,15 @@ front_swap slots (Some d) serves = serves
 pub all-handed : (plan : PlanSeen) → handed_specs plan (length (volume_specs plan)) 0 ≡ volume_specs plan
 all-handed plan = append-nil (take (length (volume_specs plan)) (volume_specs plan)) ∙ take_all (length (volume_specs plan)) (volume_specs plan) (omega arith)
 
-pub hands-front : (plan : PlanSeen) (disks : List DiskSeen) (swap : Option DiskSeen) → HandsAll plan disks swap → HandsFront plan disks swap
-hands-front plan disks swap all = record {
+pub hands-front : (plan : PlanSeen) (holds : Spec → Option (List (List ℕ))) (disks : List DiskSeen) (swap : Option DiskSeen) → HandsAll plan disks swap
+    → AreUntouched plan holds (length (volume_specs plan)) 0 disks swap → HandsFront plan holds disks swap
+hands-front plan holds disks swap all same = record {
   whole = length (volume_specs plan);
   apart = 0;
-  each = subst (λ (ss : List VolumeSpec). HaveSpecSizes ss disks) (sym (all-handed plan)) all.each;
+  same = same;
   first = front_swap (amounts_of plan.setup).slots swap all.first;
   before = λ some. all.first;
 }
-
--- where the disks tell, so does the rack
-rack-tells : (holds : Spec → Option (List (List ℕ))) (specs : List VolumeSpec) (ds : List (ℕ × DiskSeen)) (ts : List TableSeen) → AreMounted holds specs ds ts
-    → AllByRecursion (λ (d : DiskSeen). IsSome d.content) (bare_disks ds)
-    → AllByRecursion (TellsDisks holds) specs × TellOrEmpty specs ds ts
-rack-tells holds [] [] [] m told = (tt, tt)
-rack-tells holds [] [] (t ∷ ts) m told = absurd m
-rack-tells holds [] (d ∷ ds) ts m told = absurd m
-rack-tells holds (s ∷ specs) [] ts m told = absurd m
-rack-tells holds (s ∷ specs) (d ∷ ds) [] m told = absurd m
-rack-tells holds (s ∷ specs) (d ∷ ds) (t ∷ ts) m told =
-    let rest = rack-tells holds specs ds ts m.1 told.1 in
-    ((volume_tells s holds d.1 m.0.attached told.0, rest.0), (((λ e es is. told.0), (λ none. absurd (both_ways false refl (ap is_some (sym none) ∙ told.0)))), rest.1))
-
--- disks that tell told before they were written
-told-before : {D : Type 0} (seen : D → DiskSeen) (ds es : List (NumberedDisk D)) → SameDisks seen ds es → All Told (bare_disks (map (numbered_seen seen) es))
-    → All Told (bare_disks (map (numbered_seen seen) ds))
-told-before seen [] [] r told = All-nil Told
-told-before seen [] (e ∷ es) r told = absurd r
-told-before seen (d ∷ ds) [] r told = absurd r
-told-before seen (d ∷ ds) (e ∷ es) r told =
-    All-cons Told (seen d.disk) (bare_disks (map (numbered_seen seen) ds))
-    (told-one (seen d.disk).content (seen e.disk).content r.0.untold (All-head Told (seen e.disk) (bare_disks (map (numbered_seen seen) es)) told))
-    (told-before seen ds es r.1 (All-tail Told (seen e.disk) (bare_disks (map (numbered_seen seen) es)) told))
 
 -- the disk of a fault
 bare_disks-at : {D : Type 0} (seen : D → DiskSeen) (new : List (NumberedDisk D)) (i : ℕ) (x : NumberedDisk D) → i < length new
@@ -117,26 +89,13 @@ fault-cause seen plan new swap fault numbers there =
     if-counted ⊥ (λ (counts : ℕ × ℕ). IsCountedBy plan disks swap fault.disk counts.0 counts.1) fault.counts one.risen
     (record { risen = one.risen; disk = seen d.disk; back = back; last = one.last })
 
--- where the disks tell, what placing comes to is how the plan is opened
-opened-told : {D : Type 0} (seen : D → DiskSeen) (plan : PlanSeen) (holds : Spec → Option (List (List ℕ))) (old : List (NumberedDisk D)) (ts : List TableSeen) (r : Result (List OpenedFile) Refusal)
-    → AllBlocks (map (numbered_seen seen) old) → AreMounted holds (setup_volumes plan.setup) (map (numbered_seen seen) old) ts → placing_read seen old ts plan.setup ≡ r
-    → All Told (bare_disks (map (numbered_seen seen) old)) → opened_files plan holds ≡ r
-opened-told seen plan holds old ts r blocks m read told =
-    let tells = rack-tells holds (setup_volumes plan.setup) (map (numbered_seen seen) old) ts m
-    (recursion_from_All (λ (d : DiskSeen). IsSome d.content) (bare_disks (map (numbered_seen seen) old)) told) in
-    opened-is holds plan (map (numbered_seen seen) old) ts m tells.0 blocks tells.1
-    ∙ ap (λ (xs : List (ℕ × ℕ)). with_line_files (block_count (finite.from_entries xs)) (if_few (Ok (found_files (map (numbered_seen seen) old) ts))) plan.setup) (sizes-seen seen old)
-    ∙ read
-
 -- disks that were mounted are as the rack gave them
 mounted-given : (plan : PlanSeen) (holds : Spec → Option (List (List ℕ))) (disks : List (ℕ × DiskSeen)) (ts : List TableSeen) (swap : Option DiskSeen)
     → AreMounted holds (setup_volumes plan.setup) disks ts
-    → IsSwapAsGiven (amounts_of plan.setup).slots swap → AreUntouched plan holds (bare_disks disks) swap
+    → IsSwapAsGiven (amounts_of plan.setup).slots swap → AreUntouched plan holds (length (volume_specs plan)) 0 (bare_disks disks) swap
 mounted-given plan holds disks ts swap m blank =
     let given = given_of_mounted holds (setup_volumes plan.setup) disks ts m in
     record {
-      whole = length (volume_specs plan);
-      apart = 0;
       count = given_length holds (setup_volumes plan.setup) disks given ∙ ap (λ (xs : List VolumeSpec). length xs) (sym (all-handed plan));
       each = subst (λ (ss : List VolumeSpec). AreAsGiven holds ss (bare_disks disks)) (sym (all-handed plan)) (as-given holds (setup_volumes plan.setup) disks given);
       last = blank;
@@ -160,36 +119,29 @@ module _ {D : Type 0} (seen : D → DiskSeen) (plan : PlanSeen) (holds : Spec �
       let es = map (numbered_seen seen) new in
       comes-sizes plan holds (disk_sizes es) (sizes_of plan (bare_disks es)) r (sizes-handed plan es (numbers-seen seen new ∙ numbers)) (comes-to seen plan holds old new ts r m same read)
 
-  untouched : new ≡ old → AreUntouched plan holds (bare_disks (map (numbered_seen seen) new)) swap
+  untouched : new ≡ old → AreUntouched plan holds (length (volume_specs plan)) 0 (bare_disks (map (numbered_seen seen) new)) swap
   untouched is =
-      subst (λ (ds : List (NumberedDisk D)). AreUntouched plan holds (bare_disks (map (numbered_seen seen) ds)) swap) (sym is) (mounted-given plan holds (map (numbered_seen seen) old) ts swap m blank)
+      subst (λ (ds : List (NumberedDisk D)). AreUntouched plan holds (length (volume_specs plan)) 0 (bare_disks (map (numbered_seen seen) ds)) swap) (sym is) (mounted-given plan holds (map (numbered_seen seen) old) ts swap m blank)
 
   pub stop-early : (how : PlaceStop) → PlaceStopped seen (length (found_files (map (numbered_seen seen) old) ts)) (placing_read seen old ts plan.setup) old new how
-      → HandsStopped plan (bare_disks (map (numbered_seen seen) new)) swap (open_stop_of how) × StopCause plan holds count count (bare_disks (map (numbered_seen seen) new)) swap (open_stop_of how)
-  stop-early stop.Memory stopped = (hands-front plan (bare_disks (map (numbered_seen seen) new)) swap all, untouched stopped)
-  stop-early (stop.Rule n) stopped = (
-    inl all,
-    record {
-      told = λ told. opened-told seen plan holds old ts (Err (refusal.Rule n)) blocks m stopped.0
-          (subst (λ (ds : List (NumberedDisk D)). All Told (bare_disks (map (numbered_seen seen) ds))) stopped.1 told.each);
-      line = inl (comes (Err (refusal.Rule n)) stopped.0);
-      same = untouched stopped.1;
-    },
-  )
-  stop-early (stop.Fault f) stopped = (
-    tt,
-    inr (record {
-      cause = fault-cause seen plan new swap f numbers stopped.0;
-      files = stopped.1.0;
-      handed = all;
-      given = comes (Ok stopped.1.0) stopped.1.1;
-      written = record {
-        each = each-written seen (SpareBlock (drop (length (found_files (map (numbered_seen seen) old) ts)) stopped.1.0)) holds (setup_volumes plan.setup) old new ts m stopped.1.2;
-        last = blank;
-      };
-      opened = λ told. opened-told seen plan holds old ts (Ok stopped.1.0) blocks m stopped.1.1 (told-before seen old new same told.each);
-    }),
-  )
+      → StopCause plan holds count count (bare_disks (map (numbered_seen seen) new)) swap (open_stop_of how)
+  stop-early stop.Memory stopped = hands-front plan holds (bare_disks (map (numbered_seen seen) new)) swap all (untouched stopped)
+  stop-early (stop.Rule n) stopped = record {
+    told = λ told. opened-told seen plan holds old ts (Err (refusal.Rule n)) blocks m stopped.0
+        (subst (λ (ds : List (NumberedDisk D)). All Told (bare_disks (map (numbered_seen seen) ds))) stopped.1 told.each);
+    breaks = inl (record { handed = all; same = untouched stopped.1; comes = comes (Err (refusal.Rule n)) stopped.0 });
+  }
+  stop-early (stop.Fault f) stopped = inr (record {
+    cause = fault-cause seen plan new swap f numbers stopped.0;
+    files = stopped.1.0;
+    handed = all;
+    given = comes (Ok stopped.1.0) stopped.1.1;
+    written = record {
+      each = each-written seen (SpareBlock (drop (length (found_files (map (numbered_seen seen) old) ts)) stopped.1.0)) holds (setup_volumes plan.setup) old new ts m stopped.1.2;
+      last = blank;
+    };
+    opened = λ told. opened-told seen plan holds old ts (Ok stopped.1.0) blocks m stopped.1.1 (told-before seen old new same told.each);
+  })
 
 bare_disks-seen : {D : Type 0} (seen : D → DiskSeen) (ds : List (NumberedDisk D)) → bare_disks (map (numbered_seen seen) ds) ≡ map seen (map (λ (d : NumberedDisk D). d.disk) ds)
 bare_disks-seen seen [] = refl
@@ -213,14 +165,9 @@ stops-early {D} seen plan holds old new ts swap count how s ends disks swaps blo
     let r = stop-early seen plan holds old new ts (option_map (λ (d : NumberedDisk D). seen d.disk) swap) count blocks m serves blank remain how stopped in
     let same_disks : bare_disks (map (numbered_seen seen) new) ≡ map seen s.disks.items = bare_disks-seen seen new ∙ ap (map seen) (sym disks) in
     let same_swap : option_map (λ (d : NumberedDisk D). seen d.disk) swap ≡ option_map seen s.swap = swap-seen seen swap ∙ ap (option_map seen) (sym swaps) in
-    record {
-      handed = subst (λ (e : OpenStop). HandsStopped plan (map seen s.disks.items) (option_map seen s.swap) e) (sym ends)
-          (subst (λ (ds : List DiskSeen). HandsStopped plan ds (option_map seen s.swap) (open_stop_of how)) same_disks
-          (subst (λ (o : Option DiskSeen). HandsStopped plan (bare_disks (map (numbered_seen seen) new)) o (open_stop_of how)) same_swap r.0));
-      cause = subst (λ (e : OpenStop). StopCause plan holds count count (map seen s.disks.items) (option_map seen s.swap) e) (sym ends)
-          (subst (λ (ds : List DiskSeen). StopCause plan holds count count ds (option_map seen s.swap) (open_stop_of how)) same_disks
-          (subst (λ (o : Option DiskSeen). StopCause plan holds count count (bare_disks (map (numbered_seen seen) new)) o (open_stop_of how)) same_swap r.1));
-    }
+    subst (λ (e : OpenStop). StopCause plan holds count count (map seen s.disks.items) (option_map seen s.swap) e) (sym ends)
+    (subst (λ (ds : List DiskSeen). StopCause plan holds count count ds (option_map seen s.swap) (open_stop_of how)) same_disks
+    (subst (λ (o : Option DiskSeen). StopCause plan holds count count (bare_disks (map (numbered_seen seen) new)) o (open_stop_of how)) same_swap r))
 
 -- the elements of a vector that was written through
 pub items-written : {X Z : Type 0} (v : Vec X Z) (ws : List X) → length ws ≡ length v.items → (with_items v ws).items ≡ ws

@@ -18,7 +18,7 @@ use Rattle.joined_disk.specs.disk_stripe.StripeSeen.{stripe_seen, stripe_seen_by
 use Rattle.volume_disks.specs.Volumes.{IsDiskFor, IsVolume, size_fault, sized, spec_count}
 use Rattle.volume_disks.specs.declared.volume_spec.VolumeSpec.{VolumeSpec}
 use Rattle.volume_disks.specs.declared.volume_spec.VolumeSpec.TheVariants.{Plain, Joined}
-use Rattle.volume_files.specs.Opened.{AreJoined, IsVolumeAttached}
+use Rattle.volume_files.specs.Opened.{AreJoined, HasVolumeBlocks, IsVolumeAttached}
 use Rattle.volume_files.proofs.HeldVolumes.{same-sizes}
 
 -- a disk that stands for one is seen as that one
@@ -106,10 +106,10 @@ both_stand : {D : Type 0} {disk : _} (seen : D → DiskSeen) (holds : Spec → O
 both_stand {D} seen holds first second mirror volume w =
     subst (λ (o : Option (NumberedDisk D)). StandsFor seen w.first.disk (option_map (λ (d : NumberedDisk D). d.disk) o) mirror volume.disk) w.two.1 w.stands
 
-pub volume_attached : {D : Type 0} {disk : _} (seen : D → DiskSeen) (has : (d : D) → HasBlocks (seen d).content (seen d).size) (holds : Spec → Option (List (List ℕ))) (v : VolumeSpec) (volume : NumberedDisk (JoinedDisk D disk))
-    → IsVolume seen (StandsFor seen) holds v volume → IsVolumeAttached holds v (joined_seen seen volume.disk)
-volume_attached seen has holds (Plain s) volume w = subst (λ (x : DiskSeen). IsAttached s (holds s) x) (sym (plain_stands seen holds s volume w)) w.one.attached
-volume_attached seen has holds (Joined first second mirror) volume w =
+volume_blocks : {D : Type 0} {disk : _} (seen : D → DiskSeen) (has : (d : D) → HasBlocks (seen d).content (seen d).size) (holds : Spec → Option (List (List ℕ))) (v : VolumeSpec) (volume : NumberedDisk (JoinedDisk D disk))
+    → IsVolume seen (StandsFor seen) holds v volume → HasVolumeBlocks holds v (joined_seen seen volume.disk)
+volume_blocks seen has holds (Plain s) volume w = subst (λ (x : DiskSeen). IsAttached s (holds s) x) (sym (plain_stands seen holds s volume w)) w.one.attached
+volume_blocks seen has holds (Joined first second mirror) volume w =
     joined_attached seen has holds first second mirror w.first w.two.0 volume.disk w.one w.two.2 w.two.3 (both_stand seen holds first second mirror volume w)
 
 pub volume_members : {D : Type 0} {disk : _} (seen : D → DiskSeen) (holds : Spec → Option (List (List ℕ))) (v : VolumeSpec) (volume : NumberedDisk (JoinedDisk D disk))
@@ -120,6 +120,10 @@ volume_members {D} {disk} seen holds (Joined first second mirror) volume w = at 
     at : (m : Bool) → StandsFor seen w.first.disk (Some w.two.0.disk) m volume.disk → (joined_seen seen volume.disk).kind.members ≡ 2
     at false stands = ap (λ (x : DiskSeen). x.kind.members) (stripe_of seen w.first.disk w.two.0.disk volume.disk stands) ∙ (let a = w.one.single in let b = w.two.2.single in omega (arith, a, b))
     at true stands = ap (λ (x : DiskSeen). x.kind.members) (mirror_of seen w.first.disk w.two.0.disk volume.disk stands) ∙ (let a = w.one.single in let b = w.two.2.single in omega (arith, a, b))
+
+pub volume_attached : {D : Type 0} {disk : _} (seen : D → DiskSeen) (has : (d : D) → HasBlocks (seen d).content (seen d).size) (holds : Spec → Option (List (List ℕ))) (v : VolumeSpec) (volume : NumberedDisk (JoinedDisk D disk))
+    → IsVolume seen (StandsFor seen) holds v volume → IsVolumeAttached holds v (joined_seen seen volume.disk)
+volume_attached seen has holds v volume w = (volume_blocks seen has holds v volume w, volume_members seen holds v volume w)
 
 none_both : (a b : ℕ) → a ≡ 0 → b ≡ 0 → count_sum a b ≡ 0
 none_both a b one two = ap (λ (n : ℕ). count_sum n b) one ∙ ap (λ (n : ℕ). count_sum 0 n) two

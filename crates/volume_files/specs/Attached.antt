@@ -19,7 +19,7 @@ use Rattle.volume_files.specs.declared.stops.OpenStop.{OpenStop}
 use Rattle.volume_files.specs.declared.stops.OpenStop.TheVariants as halt
 use Rattle.volume_files.specs.declared.stops.HandedBack.{HandedBack}
 use Rattle.volume_files.specs.Closed.{StoreFiles, info_at}
-use Rattle.volume_files.specs.Handed.{AreUntouched, AreWrittenAt, HaveTold, RackTells, HandsFront, HandsAll, HandsRefused, HasDiskCause, HasOpeningCause}
+use Rattle.volume_files.specs.Handed.{AreWrittenAt, HaveTold, HandsFront, HandsAll, HasDiskCause, HasOpeningCause}
 use Rattle.volume_files.specs.Handed.{HasRefusalCause, IsSwapAsGiven, IsSwapFor, StopsAttaching, volume_numbers, sizes_of}
 use Rattle.volume_files.specs.Written.{LieWell, HaveDisks, HaveFirstBlocks}
 use Rattle.volume_files.specs.Opened.{ComesTo, IsVolumeAttached, OpenedFile, volume_number, line_files_of, opened_files, infos_of, opened_bytes_at, table_on, volume_specs}
@@ -91,17 +91,10 @@ abbrev pub StopCause : PlanSeen → (Spec → Option (List (List ℕ))) → ℕ 
 StopCause plan holds rack_old rack_new disks swap (halt.Refused r) = HasRefusalCause plan holds disks swap r
 StopCause plan holds rack_old rack_new disks swap (halt.Failed f) =
     (HasOpeningCause plan disks swap rack_old rack_new f × StopsAttaching plan holds disks swap f) ⊎ StopsWriting plan holds disks swap f
-StopCause plan holds rack_old rack_new disks swap halt.Memory = AreUntouched plan holds disks swap
+StopCause plan holds rack_old rack_new disks swap halt.Memory = HandsFront plan holds disks swap
 
--- What is handed back then; where a disk or the rack failed, the cause says it.
-abbrev pub HandsStopped : PlanSeen → List DiskSeen → Option DiskSeen → OpenStop → Type 0
-HandsStopped plan disks swap (halt.Refused r) = HandsRefused plan disks swap r
-HandsStopped plan disks swap (halt.Failed f) = Unit {0}
-HandsStopped plan disks swap halt.Memory = HandsFront plan disks swap
-
-pub record StopsEarly {D : Type 0} (plan : PlanSeen) (holds : Spec → Option (List (List ℕ))) (rack_old rack_new : ℕ) (seen : D → DiskSeen) (s : HandedBack D) : Type 0 where
-  pub handed : HandsStopped plan (map seen s.disks.items) (option_map seen s.swap) s.why
-  pub cause : StopCause plan holds rack_old rack_new (map seen s.disks.items) (option_map seen s.swap) s.why
+abbrev pub StopsEarly : {D : Type 0} → PlanSeen → (Spec → Option (List (List ℕ))) → ℕ → ℕ → (D → DiskSeen) → HandedBack D → Type 0
+StopsEarly plan holds rack_old rack_new seen s = StopCause plan holds rack_old rack_new (map seen s.disks.items) (option_map seen s.swap) s.why
 
 -- The names of files are names of volumes, and those of the files of one disk differ.
 pub record HaveVolumeNames (infos : List FileInfo) : Type 0 where
@@ -131,5 +124,5 @@ pub record ArePlaced (plan : PlanSeen) (holds : Spec → Option (List (List ℕ)
   pub kept : All (λ f. 1 ≤ page_count f.info.extents) files
   pub given : ComesTo plan holds (map (λ (d : ℕ × DiskSeen). (d.0, d.1.size)) a.disks) (Ok files)
   pub written : AreWrittenAt plan holds (line_files_of given.found files) (bare_disks a.disks) a.swap
-  pub told : RackTells holds plan → FileDisksTell (infos_of files) a.disks → opened_files plan holds ≡ Ok files
+  pub told : All (λ (d : DiskSeen). IsSome d.content) (bare_disks a.disks) → opened_files plan holds ≡ Ok files
   pub stored : StoreFiles a.disks (infos_of files) (opened_bytes_at files)

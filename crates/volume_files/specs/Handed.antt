@@ -1,5 +1,5 @@
 -- The disks that are handed back, by number, and why setting up ended. Public clauses cite this.
-use Rattle.std.specs.Prelude.{ℕ, ◌≡◌, ◌≤◌, ◌<◌, ◌==◌, ◌≢◌, ◌++◌, ◌∷◌, ◌⊎◌, Bool, nat_le, nat_lt, count_by, List, [], length, map, take, Option, Some, None, Err, IfSome, IsOk, IsSome}
+use Rattle.std.specs.Prelude.{ℕ, ◌≡◌, ◌≤◌, ◌<◌, ◌==◌, ◌++◌, ◌∷◌, ◌⊎◌, Bool, nat_le, nat_lt, count_by, List, [], length, map, take, Option, Some, None, Err, IfSome, IsOk, IsSome, option_and_then}
 use Rattle.std.specs.Prelude.{IsSomeAnd, MatchOption, All, zip, slice_get, slice_index_or, option_map, if◌then◌else◌, ◌+◌}
 use Rattle.std.specs.List.{Contains, sum_by}
 use Rattle.std.specs.Map.{lookup}
@@ -19,12 +19,8 @@ use Rattle.volume_files.specs.declared.stops.Refusal.{Refusal}
 use Rattle.volume_files.specs.declared.stops.Refusal.TheVariants as refusal
 use Rattle.volume_disks.specs.declared.volume_spec.VolumeSpec.{VolumeSpec}
 use Rattle.volume_disks.specs.declared.volume_spec.VolumeSpec.TheVariants.{Plain, Joined}
-use Rattle.volume_files.specs.Opened.{ComesTo, IsVolumeAttached, OpenedFile, TellsVolume, joined_size, mounted_files, volume_number, volume_specs, opened_files, table_of_read}
-use Rattle.volume_disks.specs.Volumes.{second_spec}
-
--- The rack tells what it holds for each disk by path.
-abbrev pub RackTells : (Spec → Option (List (List ℕ))) → PlanSeen → Type 0
-RackTells holds plan = All (TellsVolume holds) (volume_specs plan)
+use Rattle.volume_files.specs.Opened.{ComesTo, IsVolumeAttached, OpenedFile, joined_size, mounted_files, volume_number, volume_specs, opened_files, table_of_read, size_refusal}
+use Rattle.volume_disks.specs.Volumes.{second_spec, size_fault}
 
 -- Each disk that came back tells its blocks.
 pub record HaveTold (disks : List DiskSeen) (swap : Option DiskSeen) : Type 0 where
@@ -82,12 +78,26 @@ member_count disks swap = members_of disks + swap_members swap
 abbrev pub IsSwapFor : ℕ → Option DiskSeen → Type 0
 IsSwapFor slots swap = MatchOption swap (slots ≡ 0) (λ d. (0 < slots) × (d.size ≡ slots))
 
--- A front of the plan's volumes is handed back, in rising number, and disks of the next one, and the swap disk or none; with a disk the swap disk too, where
--- there are slots.
-pub record HandsFront (plan : PlanSeen) (disks : List DiskSeen) (swap : Option DiskSeen) : Type 0 where
+-- Each of these disks is as the rack gave it, and so is the swap disk: nothing was written. A blank disk has its blocks, zeros where it tells, and one by
+-- path has what the rack holds for it.
+abbrev pub AreAsGiven : (Spec → Option (List (List ℕ))) → List VolumeSpec → List DiskSeen → Type 0
+AreAsGiven holds specs disks = (i : ℕ) (s : VolumeSpec) (d : DiskSeen) → slice_get specs i ≡ Some s → slice_get disks i ≡ Some d → IsVolumeAttached holds s d
+
+abbrev pub IsSwapAsGiven : ℕ → Option DiskSeen → Type 0
+IsSwapAsGiven slots swap = IfSome swap (λ d. IsAttached (spec.Blank 8 slots) None d)
+
+-- So many of the plan's volumes are handed back, in rising number, and so many of the disks of the next one; and nothing was written.
+pub record AreUntouched (plan : PlanSeen) (holds : Spec → Option (List (List ℕ))) (whole apart : ℕ) (disks : List DiskSeen) (swap : Option DiskSeen) : Type 0 where
+  pub count : length disks ≡ length (handed_specs plan whole apart)
+  pub each : AreAsGiven holds (handed_specs plan whole apart) disks
+  pub last : IsSwapAsGiven (amounts_of plan.setup).slots swap
+
+-- Memory lacked: a front of the plan's volumes is handed back, and disks of the next one, and the swap disk or none; with a disk the swap disk too, where
+-- there are slots. Nothing was written.
+pub record HandsFront (plan : PlanSeen) (holds : Spec → Option (List (List ℕ))) (disks : List DiskSeen) (swap : Option DiskSeen) : Type 0 where
   pub whole : ℕ
   pub apart : ℕ
-  pub each : HaveSpecSizes (handed_specs plan whole apart) disks
+  pub same : AreUntouched plan holds whole apart disks swap
   pub first : IfSome swap (λ d. (0 < (amounts_of plan.setup).slots) × (d.size ≡ (amounts_of plan.setup).slots))
   pub before : 0 < length disks → IsSwapFor (amounts_of plan.setup).slots swap
 
@@ -96,56 +106,34 @@ pub record HandsAll (plan : PlanSeen) (disks : List DiskSeen) (swap : Option Dis
   pub each : HaveSpecSizes (volume_specs plan) disks
   pub first : IsSwapFor (amounts_of plan.setup).slots swap
 
--- The swap disk where there are slots, the volumes whose numbers pass a test, which are a front of the plan's, and so many disks of the next one.
-pub record HandsBelow (plan : PlanSeen) (passes : ℕ → Bool) (apart : ℕ) (disks : List DiskSeen) (swap : Option DiskSeen) : Type 0 where
-  pub each : HaveSpecSizes (handed_specs plan (count_by passes (volume_numbers plan)) apart) disks
+-- The swap disk where there are slots, the volumes whose numbers pass a test, which are a front of the plan's, and so many disks of the next one; and nothing
+-- was written.
+pub record HandsBelow (plan : PlanSeen) (holds : Spec → Option (List (List ℕ))) (passes : ℕ → Bool) (apart : ℕ) (disks : List DiskSeen) (swap : Option DiskSeen) : Type 0 where
+  pub same : AreUntouched plan holds (count_by passes (volume_numbers plan)) apart disks swap
   pub first : IsSwapFor (amounts_of plan.setup).slots swap
 
 -- So many of the disks of a volume of two are handed back, each by itself, and the volumes of lower numbers.
-pub record HandsApart (plan : PlanSeen) (first second : Spec) (apart : ℕ) (disks : List DiskSeen) (swap : Option DiskSeen) : Type 0 where
+pub record HandsApart (plan : PlanSeen) (holds : Spec → Option (List (List ℕ))) (first second : Spec) (apart : ℕ) (disks : List DiskSeen) (swap : Option DiskSeen) : Type 0 where
   pub mirror : Bool
   pub there : Contains (volume_specs plan) (Joined first second mirror)
-  pub handed : HandsBelow plan (λ n. nat_lt n (spec_number first)) apart disks swap
+  pub handed : HandsBelow plan holds (λ n. nat_lt n (spec_number first)) apart disks swap
 
 -- Nothing was attached.
 pub record HandsNone (disks : List DiskSeen) (swap : Option DiskSeen) : Type 0 where
   pub no_disk : disks ≡ []
   pub no_swap : swap ≡ None
 
--- What is handed back where a rule is broken: where a volume breaks rule 9, that volume and those of lower numbers, or its two disks in its place where the
--- size of one is wrong, or they differ; else all.
-abbrev pub HandsRefused : PlanSeen → List DiskSeen → Option DiskSeen → Refusal → Type 0
-HandsRefused plan disks swap (refusal.Volume number rule) =
-    HandsBelow plan (λ n. nat_le n number) 0 disks swap
-    ⊎ ((first : Spec) × (second : Spec) × ((spec_number first ≡ number) ⊎ (spec_number second ≡ number)) × HandsApart plan first second 2 disks swap)
-HandsRefused plan disks swap (refusal.Rule n) = HandsAll plan disks swap ⊎ ((n ≡ 15) × ((first : Spec) × (second : Spec) × HandsApart plan first second 2 disks swap))
-
 -- What is handed back where the rack fails, or a volume's block 0 isn't read. The rack attaches the swap disk, number 8, first, where there are slots, and
 -- then the plan's volumes in rising number, each of which is read before the next one is attached; of two disks the second right after the first.
-abbrev pub HandsUnracked : PlanSeen → List DiskSeen → Option DiskSeen → ℕ → Type 0
-HandsUnracked plan disks swap number =
+abbrev pub HandsUnracked : PlanSeen → (Spec → Option (List (List ℕ))) → List DiskSeen → Option DiskSeen → ℕ → Type 0
+HandsUnracked plan holds disks swap number =
     ((number ≡ 8) × (0 < (amounts_of plan.setup).slots) × HandsNone disks swap)
-    ⊎ (Contains (volume_numbers plan) number × HandsBelow plan (λ n. nat_lt n number) 0 disks swap)
-    ⊎ ((first : Spec) × (second : Spec) × (spec_number second ≡ number) × HandsApart plan first second 1 disks swap)
+    ⊎ (Contains (volume_numbers plan) number × HandsBelow plan holds (λ n. nat_lt n number) 0 disks swap)
+    ⊎ ((first : Spec) × (second : Spec) × (spec_number second ≡ number) × HandsApart plan holds first second 1 disks swap)
 
-abbrev pub HandsUnread : PlanSeen → List DiskSeen → Option DiskSeen → OpenFaultSeen → Type 0
-HandsUnread plan disks swap fault =
-    MatchOption fault.counts (HandsUnracked plan disks swap fault.disk) (λ counts. HandsBelow plan (λ n. nat_le n fault.disk) 0 disks swap)
-
--- Nothing was written: each of these disks is as the rack gave it, and so is the swap disk. A blank disk has its blocks, zeros where it tells, and one by
--- path has what the rack holds for it.
-abbrev pub AreAsGiven : (Spec → Option (List (List ℕ))) → List VolumeSpec → List DiskSeen → Type 0
-AreAsGiven holds specs disks = (i : ℕ) (s : VolumeSpec) (d : DiskSeen) → slice_get specs i ≡ Some s → slice_get disks i ≡ Some d → IsVolumeAttached holds s d
-
-abbrev pub IsSwapAsGiven : ℕ → Option DiskSeen → Type 0
-IsSwapAsGiven slots swap = IfSome swap (λ d. IsAttached (spec.Blank 8 slots) None d)
-
-pub record AreUntouched (plan : PlanSeen) (holds : Spec → Option (List (List ℕ))) (disks : List DiskSeen) (swap : Option DiskSeen) : Type 0 where
-  pub whole : ℕ
-  pub apart : ℕ
-  pub count : length disks ≡ length (handed_specs plan whole apart)
-  pub each : AreAsGiven holds (handed_specs plan whole apart) disks
-  pub last : IsSwapAsGiven (amounts_of plan.setup).slots swap
+abbrev pub HandsUnread : PlanSeen → (Spec → Option (List (List ℕ))) → List DiskSeen → Option DiskSeen → OpenFaultSeen → Type 0
+HandsUnread plan holds disks swap fault =
+    MatchOption fault.counts (HandsUnracked plan holds disks swap fault.disk) (λ counts. HandsBelow plan holds (λ n. nat_le n fault.disk) 0 disks swap)
 
 -- None of these disks tells a failure: each whose count is exact has counted none.
 pub record AreUncounted (disks : List DiskSeen) (swap : Option DiskSeen) : Type 0 where
@@ -185,31 +173,47 @@ NoneBreaksBefore plan holds disk =
 abbrev pub HasBadTable : ℕ → ℕ → Type 0
 HasBadTable size rule = (block : List ℕ) × (length block ≡ 4096) × (table_of_read block size ≡ Err rule)
 
--- The disk of a number among those that are handed back where attaching stopped.
-abbrev pub disk_stopped : PlanSeen → ℕ → ℕ → List DiskSeen → ℕ → Option DiskSeen
-disk_stopped plan whole apart disks number = lookup (λ n. n == number) (zip (map volume_number (handed_specs plan whole apart)) disks)
+-- A volume breaks a rule of volumes, by its size or by a block 0 that was read: it is handed back, last, behind those of lower numbers.
+pub record BreaksVolume (plan : PlanSeen) (holds : Spec → Option (List (List ℕ))) (disks : List DiskSeen) (swap : Option DiskSeen) (number rule : ℕ) : Type 0 where
+  pub there : Contains (volume_numbers plan) number
+  pub handed : HandsBelow plan holds (λ n. nat_le n number) 0 disks swap
+  pub front : List DiskSeen
+  pub volume : DiskSeen
+  pub last : disks ≡ front ++ volume ∷ []
+  pub breaks : HasBadTable volume.size rule
 
--- The last two of the disks that are handed back differ in size.
-abbrev pub LastDiffer : PlanSeen → List DiskSeen → Type 0
-LastDiffer plan disks = (front : List DiskSeen) × (a : DiskSeen) × (b : DiskSeen) × (disks ≡ front ++ a ∷ b ∷ []) × (a.size ≢ b.size)
+-- Two disks of a volume don't serve as one: they are handed back, last, behind the volumes of lower numbers, and the rule is the first that their sizes break.
+pub record BreaksSizes (plan : PlanSeen) (holds : Spec → Option (List (List ℕ))) (disks : List DiskSeen) (swap : Option DiskSeen) (r : Refusal) : Type 0 where
+  pub first : Spec
+  pub second : Spec
+  pub handed : HandsApart plan holds first second 2 disks swap
+  pub front : List DiskSeen
+  pub a : DiskSeen
+  pub b : DiskSeen
+  pub last : disks ≡ front ++ a ∷ b ∷ []
+  pub breaks : option_and_then size_refusal (size_fault (spec_number first, a.size) (spec_number second, b.size)) ≡ Some r
+
+-- Lines of files break a rule over the tables that were read, and the volumes are all handed back.
+pub record BreaksLines (plan : PlanSeen) (holds : Spec → Option (List (List ℕ))) (disks : List DiskSeen) (swap : Option DiskSeen) (rule : ℕ) : Type 0 where
+  pub handed : HandsAll plan disks swap
+  pub same : AreUntouched plan holds (length (volume_specs plan)) 0 disks swap
+  pub comes : ComesTo plan holds (sizes_of plan disks) (Err (refusal.Rule rule))
+
+-- What breaks a rule that the disks or the lines of files break, and what is handed back then.
+abbrev pub BreaksSo : PlanSeen → (Spec → Option (List (List ℕ))) → List DiskSeen → Option DiskSeen → Refusal → Type 0
+BreaksSo plan holds disks swap (refusal.Volume number rule) = BreaksVolume plan holds disks swap number rule ⊎ BreaksSizes plan holds disks swap (refusal.Volume number rule)
+BreaksSo plan holds disks swap (refusal.Rule n) = BreaksLines plan holds disks swap n ⊎ BreaksSizes plan holds disks swap (refusal.Rule n)
 
 -- Why a rule that the disks or the lines of files break is told: where each disk that came back tells, it is the first that is broken. Over any disks that
--- of a line is, and of the disk that is named a block 0 was read that breaks the rule of volumes, or its size does; or two disks that are joined differ
--- in size. Nothing was written.
-abbrev pub BreaksLine : PlanSeen → (Spec → Option (List (List ℕ))) → List DiskSeen → Option DiskSeen → Refusal → Type 0
-BreaksLine plan holds disks swap (refusal.Volume number rule) = (whole : ℕ) × (apart : ℕ) × IsSomeAnd (disk_stopped plan whole apart disks number) (λ d. HasBadTable d.size rule)
-BreaksLine plan holds disks swap (refusal.Rule n) = ComesTo plan holds (sizes_of plan disks) (Err (refusal.Rule n)) ⊎ ((n ≡ 15) × LastDiffer plan disks)
-
+-- of a line is, or the volume that is named breaks the rule of volumes, or the sizes of two disks that are joined do. Nothing was written.
 pub record HasRefusalCause (plan : PlanSeen) (holds : Spec → Option (List (List ℕ))) (disks : List DiskSeen) (swap : Option DiskSeen) (r : Refusal) : Type 0 where
   pub told : HaveTold disks swap → opened_files plan holds ≡ Err r
-  pub line : BreaksLine plan holds disks swap r
-  pub same : AreUntouched plan holds disks swap
+  pub breaks : BreaksSo plan holds disks swap r
 
 -- The rack failed, or a disk's block 0 wasn't read: nothing was written, and where each disk that came back tells, none that was read before breaks a rule.
 pub record StopsAttaching (plan : PlanSeen) (holds : Spec → Option (List (List ℕ))) (disks : List DiskSeen) (swap : Option DiskSeen) (fault : OpenFaultSeen) : Type 0 where
-  pub handed : HandsUnread plan disks swap fault
+  pub handed : HandsUnread plan holds disks swap fault
   pub first : HaveTold disks swap → NoneBreaksBefore plan holds fault.disk
-  pub same : AreUntouched plan holds disks swap
 
 -- The counts are those of the disk of this number before and after its last transfer: its count rose in it, and the disk comes back with the later one.
 pub record IsCountedBy (plan : PlanSeen) (disks : List DiskSeen) (swap : Option DiskSeen) (number before after : ℕ) : Type 0 where

@@ -1,6 +1,6 @@
 -- The files as the processes find them, or the set-up rule that keeps them from being opened. Public clauses cite this.
 use Rattle.std.specs.Prelude.{ℕ, ◌==◌, ◌+◌, ◌-◌, nat_le, nat_lt, Bool, List, [], ◌∷◌, ◌++◌, length, take, drop, map, filter, filter_map, replicate}
-use Rattle.std.specs.Prelude.{is_some, IsSome, true, false, slice_index_or, unwrap_or, Option, Some, None, option_map, option_and_then, IfSome, Result, Ok, Err, if◌then◌else◌, ◌≡◌, ◌≤◌}
+use Rattle.std.specs.Prelude.{is_some, true, false, slice_index_or, unwrap_or, Option, Some, None, option_map, option_and_then, IfSome, Result, Ok, Err, if◌then◌else◌, ◌≡◌, ◌≤◌}
 use Rattle.std.specs.List.{concat, find, flat_map, list_all, list_any, range_with_len}
 use Rattle.std.specs.FinMap as finite
 use Rattle.std.specs.Map.{lookup}
@@ -30,7 +30,7 @@ use Rattle.vm_report.specs.vm_script.PlanSeen.{PlanSeen}
 use Rattle.vm_report.specs.vm_script.Processes.{kernel_parents}
 use Rattle.vm_report.specs.vm_script.Rules.{amounts_of, gives_disk, is_from_to}
 use Rattle.joined_disk.specs.disk_stripe.StripeSeen.{stripe_blocks}
-use Rattle.volume_disks.specs.Volumes.{first_spec, size_fault}
+use Rattle.volume_disks.specs.Volumes.{first_spec, size_fault, spec_count}
 use Rattle.volume_disks.specs.declared.stops.VolumeStop.{VolumeStop}
 use Rattle.volume_disks.specs.declared.stops.VolumeStop.TheVariants as unfit
 use Rattle.volume_disks.specs.declared.volume_spec.VolumeSpec.{VolumeSpec}
@@ -101,7 +101,7 @@ volume_blocks holds (Joined first second true) = blocks_held holds first
 abbrev pub volumes_held : (Spec → Option (List (List ℕ))) → List VolumeSpec → List (ℕ × List (List ℕ))
 volumes_held holds specs = map (λ v. (volume_number v, volume_blocks holds v)) specs
 
--- A volume was attached: its disk was, by its spec, or both of its disks were, whose sizes serve, and it has what they have.
+-- How many blocks two disks have as one, and what it has in them.
 abbrev pub joined_size : Bool → ℕ → ℕ
 joined_size false size = size + size
 joined_size true size = size
@@ -110,6 +110,7 @@ abbrev pub joined_content : Bool → Option (List (List ℕ)) → Option (List (
 joined_content false first second = content_of_both stripe_blocks first second
 joined_content true first second = content_of_both (λ blocks others. blocks) first second
 
+-- A volume was attached: its disk was, by its spec, or both of its disks were, whose sizes serve, and it has what they have; and it is as many disks.
 pub record AreJoined (holds : Spec → Option (List (List ℕ))) (first second : Spec) (mirror : Bool) (disk : DiskSeen) : Type 0 where
   pub a : DiskSeen
   pub b : DiskSeen
@@ -121,9 +122,12 @@ pub record AreJoined (holds : Spec → Option (List (List ℕ))) (first second :
   pub size : disk.size ≡ joined_size mirror a.size
   pub content : disk.content ≡ joined_content mirror a.content b.content
 
+abbrev pub HasVolumeBlocks : (Spec → Option (List (List ℕ))) → VolumeSpec → DiskSeen → Type 0
+HasVolumeBlocks holds (Plain s) disk = IsAttached s (holds s) disk
+HasVolumeBlocks holds (Joined first second mirror) disk = AreJoined holds first second mirror disk
+
 abbrev pub IsVolumeAttached : (Spec → Option (List (List ℕ))) → VolumeSpec → DiskSeen → Type 0
-IsVolumeAttached holds (Plain s) disk = IsAttached s (holds s) disk
-IsVolumeAttached holds (Joined first second mirror) disk = AreJoined holds first second mirror disk
+IsVolumeAttached holds v disk = HasVolumeBlocks holds v disk × (disk.kind.members ≡ spec_count v)
 
 -- A file as it is opened: its record, and the bytes up to its length.
 pub record OpenedFile : Type 0 where
@@ -261,27 +265,6 @@ mounted_infos (n ∷ numbers) (t ∷ tables) = map (info_on n) t.entries ++ moun
 -- How many blocks the disk of a number has, of disks with these numbers and sizes.
 abbrev pub size_among : List (ℕ × ℕ) → ℕ → ℕ
 size_among sizes number = unwrap_or (lookup (λ n. n == number) sizes) 0
-
--- The rack tells what it holds for the disk of a spec, where that is by path; or for each disk of a volume.
-abbrev pub TellsSpec : (Spec → Option (List (List ℕ))) → Spec → Type 0
-TellsSpec holds (spec.Blank number blocks) = Unit {0}
-TellsSpec holds (spec.Path number path) = IsSome (holds (spec.Path number path))
-
-abbrev pub TellsDisks : (Spec → Option (List (List ℕ))) → VolumeSpec → Type 0
-TellsDisks holds (Plain s) = TellsSpec holds s
-TellsDisks holds (Joined first second mirror) = TellsSpec holds first × TellsSpec holds second
-
--- A blank disk may not tell its blocks, and a volume of two tells them where both do: so of a blank disk and one by path the rack tells nothing.
-abbrev pub is_blank_spec : Spec → Bool
-is_blank_spec (spec.Blank number blocks) = true
-is_blank_spec (spec.Path number path) = false
-
-abbrev pub AreAlike : VolumeSpec → Type 0
-AreAlike (Plain s) = Unit {0}
-AreAlike (Joined first second mirror) = is_blank_spec first ≡ is_blank_spec second
-
-abbrev pub TellsVolume : (Spec → Option (List (List ℕ))) → VolumeSpec → Type 0
-TellsVolume holds v = TellsDisks holds v × AreAlike v
 
 -- What the rack tells of the blocks of a volume: those that it holds for a disk by path, or those of two such disks as one.
 abbrev pub content_held : (Spec → Option (List (List ℕ))) → Spec → Option (List (List ℕ))
