@@ -23,14 +23,14 @@ use Rattle.vm_run.specs.Ended.{HasLateCause}
 use Rattle.volume_files.specs.Opened.{OpenedFile, infos_of, opening_flat}
 use Rattle.vm_run.specs.Played.{IsStarted, KernelLeaves, LeftSeen, IsClosingFault}
 use Rattle.volume_files.specs.Written.{infos_made}
-use Rattle.vm_run.specs.Run.{CaseOf, Course, LeavesFiles, Outside, WasShown, Lacks, RunsThrough, middle_of, opening_of, opening_part, plan_opened, wrote_before}
+use Rattle.vm_run.specs.Run.{CaseOf, Course, Outside, WasShown, Lacks, RunsThrough, WroteNoTable, WroteTablesBelow, middle_of, opening_of, opening_part, plan_opened, wrote_before}
 use Rattle.volume_files.specs.Texts.{Wrote, WroteAndFront, WroteAndPart, WroteFront, WroteOn, WrotePart}
 use Rattle.vm_run.specs.AskedTexts.{middle_text, trace_opening}
-use Rattle.volume_files.specs.Written.{AreFilesBytes, AreOnlyRead, FaultCounts, HaveDisks, IsCountedSince, KeepsBlocks, OnlyReads, WriteTables, disk_fault_counts, disk_sizes}
-use Rattle.volume_files.proofs.DiskLists.{mate, have-written, writes-refl}
+use Rattle.volume_files.specs.Written.{AreFilesBytes, AreOnlyRead, FaultCounts, HaveDisks, IsCountedSince, KeepsBlocks, OnlyReads, WriteTables, WroteTablesTo, disk_fault_counts, disk_sizes}
+use Rattle.volume_files.proofs.DiskLists.{at-map, mate, have-written, writes-refl}
 use Rattle.volume_files.proofs.WrittenTexts.{appended_nothing, risen_since, wrote_then}
 use Rattle.vm_run.proofs.Sinks.{front_behind, on_behind, part_behind, still_wrote}
-use Rattle.vm_run.proofs.Courses.{ended, begun, closes, closed-bytes, late-cause, leaves, sizes-same}
+use Rattle.vm_run.proofs.Courses.{all-tables, ended, begun, closes, closed-bytes, late-cause, no-table, numbers-new, sizes-same, some-tables, tables-below}
 
 -- disks that are only read after their tables were written
 blocks-read : (d e f : DiskSeen) → KeepsBlocks d e → OnlyReads e f → KeepsBlocks d f
@@ -135,12 +135,12 @@ module _ (st : ℕ) (ft : Option RunFault) (g : Given) (o : Outside) (what : Ask
       shown = closed-bytes st ft g what files bytes a made plan o.sink_old k1 ready s l started left new w none have shown are;
     }
 
-    -- the disks have the files, or one of them failed
+    -- the disks have the files, and the tables were written up to one of them; or one failed, and no table was
     abbrev IsLeft : Type 0
-    IsLeft = LeavesFiles g what files infos e ⊎ ((f : DiskFault) × HasLateCause what.plan l.history (bare_disks new) l.swap f)
+    IsLeft = ((n : ℕ) × WroteTablesBelow g what files infos n e) ⊎ ((f : DiskFault) × HasLateCause what.plan l.history (bare_disks new) l.swap f × WroteNoTable g what e)
 
-    is-left : l.fault ≡ None → IsLeft
-    is-left none = inl (leaves st ft g what files bytes a made plan o.sink_old k1 ready s l started left new w none)
+    is-left : l.fault ≡ None → (place : ℕ) → WroteTablesTo infos place l.disks new → IsLeft
+    is-left none place to = inl (some-tables st ft g what files bytes a made plan o.sink_old k1 ready s l started left new w none place to)
 
     -- nothing was written behind the opening part
     lacking : ToldFront plan l.history.entries → IsLeft → Wrote k1 o.sink_new [] → Lacks g o e
@@ -161,29 +161,30 @@ module _ (st : ℕ) (ft : Option RunFault) (g : Given) (o : Outside) (what : Ask
   -- a fault in closing
   close-failed : (f : DiskFault) (new : List (ℕ × DiskSeen)) (w : WriteTables l.disks new) (i : ℕ) (disk : DiskSeen) → slice_get new i ≡ Some (f.disk, disk) → f.disk < 8 → f.after ≡ disk.faults
       → ((count : ℕ) × (slice_index_or l.history.faults f.disk None ≡ Some count) × (count ≤ f.before)) → Told plan l.history.entries → ToldFront plan l.history.entries
-      → IsLeft new w
+      → IsLeft new w → WroteNoTable g what (e new w) ⊎ WroteTablesBelow g what files infos f.disk (e new w)
       → (how : Ending) → CloseFails what.options plan l.history.entries f k1 o.sink_new how → CaseOf g o (wrote_before o) (e new w) how
-  close-failed f new w i disk at small last since told front kept ending.Memory c = lacking new w front kept c
-  close-failed f new w i disk at small last since told front kept (ending.Closing h) c = record {
+  close-failed f new w i disk at small last since told front kept tables ending.Memory c = lacking new w front kept c
+  close-failed f new w i disk at small last since told front kept tables (ending.Closing h) c = record {
     course = course (λ k. []);
     runs = through new w told (λ k. []);
     cause = fault-cause h new w i disk
         (at ∙ ap (λ (x : DiskFault). Some (x.disk, disk)) (sym c.0)) (subst (λ (x : DiskFault). x.disk < 8) (sym c.0) small) (subst (λ (x : DiskFault). x.after ≡ disk.faults) (sym c.0) last)
         (subst (λ (x : DiskFault). (count : ℕ) × (slice_index_or l.history.faults x.disk None ≡ Some count) × (count ≤ x.before)) (sym c.0) since);
+    tables = subst (λ (x : DiskFault). WroteNoTable g what (e new w) ⊎ WroteTablesBelow g what files infos x.disk (e new w)) (sym c.0) tables;
     wrote = subst (λ (x : DiskFault). WroteOn o.sink_old o.sink_new (opening_of (course (λ k. [])) (e new w))
         (middle_of (course (λ k. [])) (e new w) ++ disk_fault_text x.disk x.before x.after)) (sym c.0)
         (behind-on new w _ c.1);
   }
-  close-failed f new w i disk at small last since told front kept ending.Whole c = absurd c
-  close-failed f new w i disk at small last since told front kept ending.Usage c = absurd c
-  close-failed f new w i disk at small last since told front kept (ending.NoScript x) c = absurd c
-  close-failed f new w i disk at small last since told front kept (ending.Refused x) c = absurd c
-  close-failed f new w i disk at small last since told front kept ending.NotRead c = absurd c
-  close-failed f new w i disk at small last since told front kept ending.OpeningSink c = absurd c
-  close-failed f new w i disk at small last since told front kept ending.Sink c = absurd c
-  close-failed f new w i disk at small last since told front kept (ending.Opening x) c = absurd c
-  close-failed f new w i disk at small last since told front kept (ending.Showing x) c = absurd c
-  close-failed f new w i disk at small last since told front kept (ending.Checked t) c = absurd c
+  close-failed f new w i disk at small last since told front kept tables ending.Whole c = absurd c
+  close-failed f new w i disk at small last since told front kept tables ending.Usage c = absurd c
+  close-failed f new w i disk at small last since told front kept tables (ending.NoScript x) c = absurd c
+  close-failed f new w i disk at small last since told front kept tables (ending.Refused x) c = absurd c
+  close-failed f new w i disk at small last since told front kept tables ending.NotRead c = absurd c
+  close-failed f new w i disk at small last since told front kept tables ending.OpeningSink c = absurd c
+  close-failed f new w i disk at small last since told front kept tables ending.Sink c = absurd c
+  close-failed f new w i disk at small last since told front kept tables (ending.Opening x) c = absurd c
+  close-failed f new w i disk at small last since told front kept tables (ending.Showing x) c = absurd c
+  close-failed f new w i disk at small last since told front kept tables (ending.Checked t) c = absurd c
 
   -- the disk of a fault since the processes ran
   fault-low : (f : DiskFault) (new : List (ℕ × DiskSeen)) (c : IsCountedSince l.disks new (disk_fault_counts f)) → f.disk < 8
@@ -230,7 +231,7 @@ module _ (st : ℕ) (ft : Option RunFault) (g : Given) (o : Outside) (what : Ask
     course = course h.0;
     begun = begun st ft g what files bytes a made plan o.sink_old k1 ready s l started left new (writes-then l.disks mid new w r) counts;
     told = subst (λ (p : PlanSeen). ToldFront p l.history.entries) ready.numbered front;
-    left = is-left new (writes-then l.disks mid new w r) none;
+    left = inl (8, all-tables st ft g what files bytes a made plan o.sink_old k1 ready s l started left new (writes-then l.disks mid new w r) none (tables-read mid new infos r tables));
     wrote = inr (
       is-shown new (writes-then l.disks mid new w r) told none (tables-read mid new infos r tables) h.0
           (bytes-read mid new infos h.0 r h.1),
@@ -247,7 +248,7 @@ module _ (st : ℕ) (ft : Option RunFault) (g : Given) (o : Outside) (what : Ask
   shows told front none mid new w r tables (ending.Checked t) h = absurd h
 
   -- memory lacked
-  lacked : (new : List (ℕ × DiskSeen)) → ToldFront plan l.history.entries → (how : Ending) → (c : LacksTable k1 o.sink_new l.disks new how)
+  lacked : (new : List (ℕ × DiskSeen)) → ToldFront plan l.history.entries → (how : Ending) → (c : LacksTable infos k1 o.sink_new l.disks new how)
       → IsLeft new c.writes → CaseOf g o (wrote_before o) (e new c.writes) how
   lacked new front how c kept = subst (λ (x : Ending). CaseOf g o (wrote_before o) (e new c.writes) x) (sym c.memory) (lacking new c.writes front kept c.wrote)
 
@@ -265,8 +266,19 @@ module _ (st : ℕ) (ft : Option RunFault) (g : Given) (o : Outside) (what : Ask
     closing-since : (count : ℕ) × (slice_index_or l.history.faults f.disk None ≡ Some count) × (count ≤ f.before)
     closing-since = (closing-fault.count, closing-fault.told, closing-fault.fault.since)
 
+    closing-table : (w : WriteTables l.disks new) → WroteNoTable g what (e new w)
+    closing-table w = no-table st ft g what files bytes a made plan o.sink_old k1 ready s l started left new w same
+
     closing-left : (w : WriteTables l.disks new) → IsLeft new w
-    closing-left w = inr (f, fault-cause f new w closing-fault.there.0 closing-fault.disk.1 closing-at closing-low closing-fault.fault.last closing-since)
+    closing-left w = inr (f, fault-cause f new w closing-fault.there.0 closing-fault.disk.1 closing-at closing-low closing-fault.fault.last closing-since, closing-table w)
+
+  -- the table of a disk wasn't written
+  table-failed : (f : DiskFault) (new : List (ℕ × DiskSeen)) (w : WriteTables l.disks new) → l.fault ≡ None → (c : IsCountedSince l.disks new (disk_fault_counts f)) → WroteTablesTo infos c.i l.disks new
+      → WroteTablesBelow g what files infos f.disk (e new w)
+  table-failed f new w none c to =
+      tables-below st ft g what files bytes a made plan o.sink_old k1 ready s l started left new w none c.i f.disk
+      (ap (λ (ns : List ℕ). slice_get ns c.i) (sym (numbers-new st ft g what files bytes a made plan o.sink_old k1 ready s l started left new w))
+      ∙ at-map (λ (d : ℕ × DiskSeen). d.0) new c.i (f.disk, c.is.1) (fault-at f new c)) to
 
   -- the end of a run whose processes ran, whichever it is
   pub close-case : (whole : Bool) → (IsTrue whole → Told plan l.history.entries) → ToldFront plan l.history.entries → (fault : Option DiskFault)
@@ -274,13 +286,13 @@ module _ (st : ℕ) (ft : Option RunFault) (g : Given) (o : Outside) (what : Ask
       → CloseEnds whole fault what.options plan l.history.entries infos k1 o.sink_new l.disks new how
       → CaseOf g o (wrote_before o) (record { status = st; fault = ft; history = l.history; disks = bare_disks new; swap = l.swap }) how
   close-case false told front (Some f) is new how c = lacked new front how c.1 (closing-left f is new c.0 c.1.writes)
-  close-case false told front None is new how c = lacked new front how c (is-left new c.writes is)
+  close-case false told front None is new how c = lacked new front how c (is-left new c.writes is c.tables.0 c.tables.1)
   close-case true told front (Some f) is new how c =
       let x = closing-fault f is new c.0 in
       let w = subst (WriteTables l.disks) (sym c.0) (writes-refl l.disks) in
-      close-failed f new w x.there.0 x.disk.1 (closing-at f is new c.0) (closing-low f is new c.0) x.fault.last (closing-since f is new c.0) (told refl) front (closing-left f is new c.0 w) how c.1
+      close-failed f new w x.there.0 x.disk.1 (closing-at f is new c.0) (closing-low f is new c.0) x.fault.last (closing-since f is new c.0) (told refl) front (closing-left f is new c.0 w) (inl (closing-table f is new c.0 w)) how c.1
   close-case true told front None is new how (inl c) = shows (told refl) front is c.mid new c.writes c.reads c.tables how c.ends
   close-case true told front None is new how (inr (inl c)) =
       close-failed c.fault new c.writes c.counted.i c.counted.is.1 (fault-at c.fault new c.counted) (fault-low c.fault new c.counted) c.counted.fault.last
-      (since-closed c.fault new c.counted) (told refl) front (is-left new c.writes is) how c.ends
-  close-case true told front None is new how (inr (inr c)) = lacked new front how c (is-left new c.writes is)
+      (since-closed c.fault new c.counted) (told refl) front (is-left new c.writes is c.counted.i c.tables) (inr (table-failed c.fault new c.writes is c.counted c.tables)) how c.ends
+  close-case true told front None is new how (inr (inr c)) = lacked new front how c (is-left new c.writes is c.tables.0 c.tables.1)

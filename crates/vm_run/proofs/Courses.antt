@@ -7,7 +7,7 @@ use Rattle.std.specs.Prelude.{All, IfNone, IfSome, IsSome, IsSomeAnd, Ok, Option
 use Rattle.std.specs.Map.{lookup}
 use Rattle.std.proofs.lemmas.Bool.{false≢true, ne_eqb}
 use Rattle.std.proofs.lemmas.Bool.Decides.{eqb_tells}
-use Rattle.std.proofs.lemmas.Option.{none-some, same_Some}
+use Rattle.std.proofs.lemmas.Option.{none-some, same_Some, slice_get_within}
 use Rattle.std.proofs.lemmas.List.{length-map}
 use Rattle.volume_files.specs.block_device.DiskSeen.{DiskSeen}
 use Rattle.volume_files.specs.block_device.declared.disk_fault.DiskFault.{DiskFault}
@@ -35,19 +35,29 @@ use Rattle.volume_files.specs.Attached.{AttachedSeen, FileDisksTell, bare_disks}
 use Rattle.volume_files.specs.Closed.{SayTables, StoreFiles, flat_bytes, info_at, infos_in_flat, mode_in, modes_in}
 use Rattle.vm_run.specs.Course.{IsReady}
 use Rattle.vm_run.specs.Ended.{End, HasLateCause, CountsReach}
-use Rattle.volume_files.specs.Handed.{HaveTold, HandsAll, HasSpecSize, volume_numbers, disk_handed, volumes_of, sizes_of}
-use Rattle.volume_files.specs.Opened.{OpenedFile, infos_of, names_of, opening_flat, setup_volumes, stored_bytes, volume_number}
-use Rattle.vm_run.specs.OnDisks.{HoldFronts}
+use Rattle.vm_core.specs.vm_world.Events.{IsUnkept}
+use Rattle.volume_files.specs.Handed.{HaveTold, HandsAll, HasSpecSize, block_told, volume_numbers, disk_handed, volumes_of, sizes_of}
+use Rattle.volume_files.specs.Opened.{IsVolumeAttached, OpenedFile, infos_of, names_of, opening_flat, setup_volumes, stored_bytes, volume_number}
+use Rattle.vm_run.specs.OnDisks.{AreUnkeptGiven, HoldFronts}
 use Rattle.vm_run.specs.Played.{IsStarted, KernelLeaves, LeftSeen, IsDiskOf}
 use Rattle.volume_files.specs.Written.{infos_made}
-use Rattle.vm_run.specs.Run.{AreClosedBytes, AreOpenedBytes, Begun, ClosesFiles, LeavesFiles, DisksTell, IsOpened, flat_opened, flat_closed}
-use Rattle.volume_files.specs.Written.{AreFilesBytes, HaveDisks, KeepsBlocks, WriteTables, disk_sizes}
+use Rattle.vm_run.specs.Run.{AreClosedBytes, AreOpenedBytes, Begun, ClosesFiles, LeavesFiles, DisksTell, IsOpened, WroteNoTable, WroteTablesBelow, flat_opened, flat_closed}
+use Rattle.volume_files.specs.Written.{AreFilesBytes, HaveDisks, KeepsBlocks, WriteTables, WroteTablesTo, disk_sizes}
 use Rattle.volume_files.proofs.DiskLists.{at-map, in-map, mate, number, to-all, zip-back, sizes-by, sizes-written, low-disks, lookup-at}
 use Rattle.vm_run.proofs.AskedRules.{asked-rules}
 use Rattle.vm_run.proofs.KeptBytes.{stored-kept}
 use Rattle.vm_run.proofs.KeptFronts.{fronts-kept}
+use Rattle.vm_run.proofs.KeptUnkept.{told-kept}
+use Rattle.vm_run.proofs.RisingNumbers.{lower-before}
+use Rattle.vm_run.proofs.SparedLines.{lines-spare}
 use Rattle.vm_run.proofs.Returned.{swap-serves-still}
 use Rattle.volume_files.proofs.GivenFiles.{comes-sizes}
+
+-- nothing stands past the end of a list
+past-get : (ns : List ℕ) (i : ℕ) → slice_get ns i ≡ None → length ns ≤ i
+past-get [] i none = omega arith
+past-get (n ∷ ns) zero none = absurd (none-some n (sym none))
+past-get (n ∷ ns) (suc i) none = let le = past-get ns i none in omega (arith, le)
 
 -- a disk that tells did so before
 told-before : (old new : DiskSeen) → KeepsBlocks old new → IsSome new.content → IsSome old.content
@@ -160,7 +170,7 @@ module _ (st : ℕ) (ft : Option RunFault) (g : Given) (what : Asked) (files : L
   }
 
   -- the disks that come back have numbers of the plan
-  numbers-new : map number new ≡ volume_numbers what.plan
+  pub numbers-new : map number new ≡ volume_numbers what.plan
   numbers-new = numbers-old ∙ ready.placed.numbers
 
   reached : CountsReach what.plan (bare_disks new) l.swap l.history.entries
@@ -207,6 +217,70 @@ module _ (st : ℕ) (ft : Option RunFault) (g : Given) (what : Asked) (files : L
       subst (λ (F : Flat). HoldFronts F l.history.entries new) flat-same
       (fronts-kept (opening_flat plan (disk_sizes a.disks) files) l.history.entries l.disks new w (left.places told) (left.fronts told))
 
+  -- the number of a disk, and that nothing else is in its place
+  numbers-of-left : map number l.disks ≡ volume_numbers what.plan
+  numbers-of-left = left.disks.numbers ∙ ap (map number) started.racked ∙ ready.placed.numbers
+
+  number-at : (i : ℕ) (s : VolumeSpec) (d : ℕ × DiskSeen) → slice_get (setup_volumes what.plan.setup) i ≡ Some s → slice_get l.disks i ≡ Some d → d.0 ≡ volume_number s
+  number-at i sp d si di = same_Some d.0 (volume_number sp) (sym (at-map number l.disks i d di) ∙ ap (λ (ns : List ℕ). slice_get ns i) numbers-of-left ∙ at-map volume_number (setup_volumes what.plan.setup) i sp si)
+
+  abbrev closed-flat : Flat
+  closed-flat = replay (opening_flat plan (disk_sizes a.disks) files) l.history.entries
+
+  -- a block that no file keeps is as the rack gave it, where it is as the kernel left it
+  given-at : DisksTell ended → (i : ℕ) (sp : VolumeSpec) (d : DiskSeen) → slice_get (setup_volumes what.plan.setup) i ≡ Some sp → slice_get (bare_disks new) i ≡ Some d
+      → (was : DiskSeen) × IsVolumeAttached g.holds sp was
+      × ((block : ℕ) → IsUnkept closed-flat (volume_number sp) block → ((y : ℕ × DiskSeen) → slice_get l.disks i ≡ Some y → block_told d.content block ≡ block_told y.1.content block)
+      → block_told d.content block ≡ block_told was.content block)
+  given-at t i sp d si di =
+      let x = in-map (λ (p : ℕ × DiskSeen). p.1) new i d di in
+      let y = mate new l.disks (sym w.numbers) i x.0 x.1 in
+      let z = mate l.disks a.disks (sym (left.disks.numbers ∙ ap (map number) started.racked)) i y.0 y.1 in
+      let given = ready.placed.written.each i sp z.0.1 si (at-map (λ (p : ℕ × DiskSeen). p.1) a.disks i z.0 z.1) in (
+        given.0,
+        given.1,
+        λ block none same.
+            same y.0 y.1
+            ∙ left.unkept (told-left t) i z.0 y.0 (ap (λ (ds : List (ℕ × DiskSeen)). slice_get ds i) started.racked ∙ z.1) y.1 block
+            (subst (λ (n : ℕ). IsUnkept closed-flat n block) (sym (number-at i sp y.0 si y.1)) none)
+            ∙ given.2 block (lines-spare what.plan g.holds files a made ready.placed plan (disk_sizes a.disks) l.history.entries (volume_number sp) block none),
+      )
+
+  -- what its blocks that no file keeps hold
+  unkept : DisksTell ended → AreUnkeptGiven what.plan g.holds (flat_opened what files (bare_disks new)) l.history.entries (bare_disks new)
+  unkept t i sp d si di =
+      let x = in-map (λ (p : ℕ × DiskSeen). p.1) new i d di in
+      let given = given-at t i sp d si di in (
+        given.0,
+        given.1,
+        λ block none.
+            given.2 block (subst (λ (F : Flat). IsUnkept (replay F l.history.entries) (volume_number sp) block) (sym flat-same) none.1)
+            (λ y at. ap (λ (q : DiskSeen). block_told q.content block) (sym x.2) ∙ told-kept y.1 x.0.1 block (w.each i y x.0 at x.1) none.0),
+      )
+
+  -- block 0 of a disk, which no file keeps
+  first-unkept : DisksTell ended → (i : ℕ) (sp : VolumeSpec) (d : DiskSeen) → slice_get (setup_volumes what.plan.setup) i ≡ Some sp → slice_get (bare_disks new) i ≡ Some d
+      → IsUnkept closed-flat (volume_number sp) 0
+  first-unkept t i sp d si di =
+      let x = in-map (λ (p : ℕ × DiskSeen). p.1) new i d di in
+      let y = mate new l.disks (sym w.numbers) i x.0 x.1 in
+      (
+        subst (λ (n : ℕ). n < 8) (number-at i sp y.0 si y.1) (low-disks what.plan l.disks numbers-of-left i y.0 y.1),
+        λ name at. let past = left.places (told-left t) name (volume_number sp) 0 at in absurd (omega (arith, past)),
+      )
+
+  -- the tables that were written
+  pub no-table : new ≡ l.disks → WroteNoTable g what ended
+  no-table same t i sp d si di =
+      let given = given-at t i sp d si di in
+      let x = in-map (λ (p : ℕ × DiskSeen). p.1) new i d di in (
+        given.0,
+        given.1,
+        λ block first. subst (λ (b : ℕ). block_told d.content b ≡ block_told given.0.content b) (sym first) (given.2 0 (first-unkept t i sp d si di)
+            (λ y at. let one : x.0 ≡ y = same_Some x.0 y (sym x.1 ∙ ap (λ (ds : List (ℕ × DiskSeen)). slice_get ds i) same ∙ at) in
+            ap (λ (q : DiskSeen). block_told q.content 0) (sym x.2) ∙ ap (λ (q : ℕ × DiskSeen). block_told q.1.content 0) one)),
+      )
+
   pub begun : All (λ (e : Entry). HasToldCounts e.reply) l.history.entries → Begun g what files bytes ended
   begun counts = record {
     opened = is-opened;
@@ -217,6 +291,7 @@ module _ (st : ℕ) (ft : Option RunFault) (g : Given) (what : Asked) (files : L
     counted = left.counted;
     reached = reached;
     fronts = λ t. subst (HoldFronts (flat_opened what files (bare_disks new)) l.history.entries) (sym pairs-new) (fronts t);
+    unkept = unkept;
   }
 
   names-left : map (λ (v : VnodeSeen). v.info.name) l.files.files ≡ names_of files
@@ -243,6 +318,52 @@ module _ (st : ℕ) (ft : Option RunFault) (g : Given) (what : Asked) (files : L
         ∙ ap (infos_in_flat (names_of files)) closed-same;
     stored = λ t. subst (λ (d : List (ℕ × DiskSeen)). StoreFiles d (infos_made l.files) (flat_bytes (flat_closed what files (bare_disks new) l.history.entries).files)) (sym pairs-new) (stored none t);
   }
+
+  module _ (none : l.fault ≡ None) where
+    -- up to the disk of a number
+    pub tables-below : (place number-there : ℕ) → slice_get (volume_numbers what.plan) place ≡ Some number-there → WroteTablesTo (infos_made l.files) place l.disks new
+        → WroteTablesBelow g what files (infos_made l.files) number-there ended
+    tables-below place number-there at to = record {
+      left = leaves none;
+      below = λ i d there lower.
+          let here : slice_get new i ≡ Some d = ap (λ (ds : List (ℕ × DiskSeen)). slice_get ds i) (sym pairs-new) ∙ there in
+          to.before i d (lower-before what.plan i place d.0 number-there (ap (λ (ns : List ℕ). slice_get ns i) (sym numbers-new) ∙ at-map number new i d here) at lower) here;
+      above = λ t i sp d si di.
+          let given = given-at t i sp d si di in
+          let x = in-map (λ (p : ℕ × DiskSeen). p.1) new i d di in (
+            given.0,
+            given.1,
+            λ block first.
+                let behind = lower-before what.plan place i number-there (volume_number sp) at (at-map volume_number (setup_volumes what.plan.setup) i sp si) first.0 in
+                subst (λ (b : ℕ). block_told d.content b ≡ block_told given.0.content b) (sym first.1) (given.2 0 (first-unkept t i sp d si di)
+                (λ y there. let one : x.0 ≡ y = same_Some x.0 y (sym x.1 ∙ to.behind i behind ∙ there) in
+                ap (λ (q : DiskSeen). block_told q.content 0) (sym x.2) ∙ ap (λ (q : ℕ × DiskSeen). block_told q.1.content 0) one)),
+          );
+    }
+
+    -- up to the last disk
+    pub all-tables : SayTables new (infos_made l.files) → WroteTablesBelow g what files (infos_made l.files) 8 ended
+    all-tables say = record {
+      left = leaves none;
+      below = λ i d there lower. say i d (ap (λ (ds : List (ℕ × DiskSeen)). slice_get ds i) (sym pairs-new) ∙ there);
+      above = λ t i sp d si di.
+          let given = given-at t i sp d si di in
+          (given.0, given.1, λ block first. let low = (first-unkept t i sp d si di).0 in let high = first.0 in absurd (omega (arith, low, high)));
+    }
+
+    pub some-tables : (place : ℕ) → WroteTablesTo (infos_made l.files) place l.disks new → (n : ℕ) × WroteTablesBelow g what files (infos_made l.files) n ended
+    some-tables place to = by_number (slice_get (volume_numbers what.plan) place) refl
+      where
+        by_number : (o : Option ℕ) → slice_get (volume_numbers what.plan) place ≡ o → (n : ℕ) × WroteTablesBelow g what files (infos_made l.files) n ended
+        by_number (Some n) at = (n, tables-below place n at to)
+        by_number None past = (8, all-tables (λ i d there. to.before i d (before i d there) there))
+          where
+            before : (i : ℕ) (d : ℕ × DiskSeen) → slice_get new i ≡ Some d → i < place
+            before i d there =
+                let at : slice_get (volume_numbers what.plan) i ≡ Some d.0 = ap (λ (ns : List ℕ). slice_get ns i) (sym numbers-new) ∙ at-map number new i d there in
+                let lt = slice_get_within (volume_numbers what.plan) i d.0 at in
+                let le = past-get (volume_numbers what.plan) place past in
+                omega (arith, lt, le)
 
   -- the files were closed
   pub closes : l.fault ≡ None → SayTables new (infos_made l.files) → ClosesFiles g what files (infos_made l.files) ended

@@ -1,7 +1,8 @@
 -- How a run ends whose files were closed.
 use Rattle.vm_core.proofs.page_store.FrameLaws.{unset as no-make}
-use Rattle.std.proofs.Common.{◌≡◌, ◌∙◌, ℕ, ◌≤◌, List, ◌++◌, true, false, ap, refl, sym, subst, inl, inr}
-use Rattle.std.specs.Prelude.{Bool, Option, Some, None, is_some}
+use Rattle.std.proofs.Common.{◌≡◌, ◌∙◌, ℕ, ◌≤◌, List, ◌++◌, length, true, false, ap, refl, sym, subst, inl, inr, arith}
+use Rattle.std.specs.Prelude.{Bool, Option, Some, None, is_some, IfErr, OnOk, Ok, Err, Result}
+use Rattle.std.proofs.lemmas.Option.{slice_get_past}
 use Rattle.std.proofs.Common.{append-nil}
 use Rattle.std.proofs.lemmas.Bool.{false≢true}
 use Rattle.volume_files.specs.vm_types.declared.call.Entry.{Entry}
@@ -19,7 +20,10 @@ use Rattle.volume_files.specs.declared.showing.ShowStop.TheVariants as show
 use Rattle.vm_run.specs.Course.{CloseEnds, LacksTable, MiddleStops, ShowEnds, showing_stop}
 use Rattle.volume_files.specs.Texts.{Wrote, WroteFront, WrotePart}
 use Rattle.vm_run.specs.AskedTexts.{files_or_none, middle_text}
-use Rattle.volume_files.specs.Written.{disk_fault_counts, AreFilesBytes, IsShowStop}
+use Rattle.volume_files.specs.Closed.{SayTables}
+use Rattle.volume_files.specs.declared.closing.TableStop.{TableStop}
+use Rattle.volume_files.specs.declared.closing.TableStop.TheVariants as table
+use Rattle.volume_files.specs.Written.{disk_fault_counts, AreFilesBytes, IsShowStop, IsTableStop, WriteTables, WroteTablesTo}
 use Rattle.volume_files.specs.Handed.{kinds_of}
 use Rattle.volume_files.proofs.DiskCounts.{kinds-read, kinds-written}
 use Rattle.volume_files.proofs.WrittenTexts.{risen_since, wrote_then}
@@ -69,9 +73,26 @@ module _ (o : Options) (plan : PlanSeen) (H : List Entry) (infos : List FileInfo
   files-stopped are none later wrote (show.Fault f) s =
       (s.0, (bytes, s.1.0, s.1.1, are, s.1.2, no-make o.make none, wrote_then k0 k1 k2 (middle_text o plan H) _ wrote s.1.3))
 
+-- no table was written
+pub no-tables : (infos : List FileInfo) (disks : List (ℕ × DiskSeen)) → WroteTablesTo infos 0 disks disks
+no-tables infos disks = record { before = λ i d low at. absurd (omega (arith, low)); behind = λ i low. refl }
+
+-- tables were written up to some disk, whether all were or not
+pub tables-to : (infos : List FileInfo) (old new : List (ℕ × DiskSeen)) → WriteTables old new → (r : Result (Unit {0}) TableStop) → OnOk r (SayTables new infos) → IfErr r (IsTableStop infos old new)
+    → (place : ℕ) × WroteTablesTo infos place old new
+tables-to infos old new w (Ok done) say stop = (
+  length new,
+  record {
+    before = λ i d low at. say i d at;
+    behind = λ i past. slice_get_past new i (omega (arith, past)) ∙ sym (slice_get_past old i (let count = w.count in omega (arith, past, count)));
+  },
+)
+tables-to infos old new w (Err table.Memory) say stop = stop
+tables-to infos old new w (Err (table.Fault f)) say stop = (stop.0.i, stop.1)
+
 -- not all lines were made
 pub lacks-closed : (whole : Bool) (fault : Option DiskFault) (o : Options) (plan : PlanSeen) (H : List Entry) (infos : List FileInfo) (k0 k1 : SinkSeen) (old new : List (ℕ × DiskSeen)) (how : Ending)
-    → whole ≡ false → (is_some fault ≡ true → new ≡ old) → LacksTable k0 k1 old new how → CloseEnds whole fault o plan H infos k0 k1 old new how
+    → whole ≡ false → (is_some fault ≡ true → new ≡ old) → LacksTable infos k0 k1 old new how → CloseEnds whole fault o plan H infos k0 k1 old new how
 lacks-closed whole fault o plan H infos k0 k1 old new how is same h = subst (λ (b : Bool). CloseEnds b fault o plan H infos k0 k1 old new how) (sym is) (by fault same)
   where
     by : (f : Option DiskFault) → (is_some f ≡ true → new ≡ old) → CloseEnds false f o plan H infos k0 k1 old new how

@@ -38,4 +38,8 @@ pub mod AskedRules
 pub mod PrintedTraces
 pub mod Fronts
 pub mod BlocksLeft
+pub mod UnkeptLeft
+pub mod SparedLines
+pub mod KeptUnkept
+pub mod RisingNumbers
 pub mod KeptFronts

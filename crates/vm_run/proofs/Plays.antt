@@ -38,6 +38,7 @@ use Rattle.vm_run.proofs.KernelRows.{played-since}
 use Rattle.vm_run.proofs.FileRecords.{extents-left, infos-left, legal-left, lie-left, modes-left}
 use Rattle.vm_run.proofs.Returned.{Closes, all-tell, counts-left, disks-left, fault-left, have-left, reached-left, swap-left}
 use Rattle.vm_run.proofs.ToldLines.{front-told, whole-told}
+use Rattle.vm_run.proofs.UnkeptLeft.{unkept-left}
 
 -- THE ONE BLOCK may be run
 pub alone-ready : (plan : PlanSeen) (F : Flat) (disks : List (ℕ × DiskSeen)) (swap : Option DiskSeen) (files : FilesSeen) (s : KernelState) → IsPlayable plan → is_alone plan ≡ true
@@ -121,6 +122,7 @@ is-left plan F disks swap files s t whole l st played c =
       infos = infos-left F s t l since before c;
       stored = stored-left F s t l since before c;
       fronts = λ told. fronts-left F s t l since before c told t.marks (after.marks (all-tell F s t l since before c told)) after.failures;
+      unkept = unkept-left F s t l since before c;
       places = λ told. places-left F s t l since before c told t.marks (after.marks (all-tell F s t l since before c told)) after.failures;
       fault = fault-left F s t l since before c;
       counts = counts-left F s t l since before c;

@@ -59,7 +59,7 @@ pub record Closes (t : KernelState) (l : LeftSeen) : Type 0 where
   pub few : length l.files.files ≤ 64
 
 -- A DISK THAT IS LISTED is home.
-home-there : (w : World) (spaces : Spaces) (i : ℕ) → MemoryFits (record { world = w; spaces = spaces }) → NotesFit w no_notes → i < length (disks_of w)
+pub home-there : (w : World) (spaces : Spaces) (i : ℕ) → MemoryFits (record { world = w; spaces = spaces }) → NotesFit w no_notes → i < length (disks_of w)
     → bay_at w.store.bays (disk_at (disks_of w) i).0 ≡ home (disk_at (disks_of w) i).1
 home-there w spaces i fits nf lt =
     let long = length-map {B = ℕ × DiskSeen} w.store.order (λ (number : ℕ). (number, disk_in (bay_at w.store.bays number))) in
@@ -120,7 +120,7 @@ module _ (F : Flat) (s t : KernelState) (l : LeftSeen) (since : IsSince s t no_s
   slots-same : length t.memory.world.anon.counts ≡ length s.memory.world.anon.counts
   slots-same = ap (λ (f : Fixed). f.slots) since.fixed
 
-  long-old : length old ≡ length start
+  pub long-old : length old ≡ length start
   long-old =
       let a = length-map {B = ℕ × DiskSeen} t.memory.world.store.order (λ (number : ℕ). (number, disk_in (bay_at t.memory.world.store.bays number))) in
       let b = length-map {B = ℕ × DiskSeen} s.memory.world.store.order (λ (number : ℕ). (number, disk_in (bay_at s.memory.world.store.bays number))) in
@@ -130,7 +130,7 @@ module _ (F : Flat) (s t : KernelState) (l : LeftSeen) (since : IsSince s t no_s
   long-new : length l.disks ≡ length old
   long-new = c.disks.count
 
-  number-same : (i : ℕ) → i < length old → (disk_at old i).0 ≡ (disk_at start i).0
+  pub number-same : (i : ℕ) → i < length old → (disk_at old i).0 ≡ (disk_at start i).0
   number-same i lt =
       let a = length-map {B = ℕ × DiskSeen} t.memory.world.store.order (λ (number : ℕ). (number, disk_in (bay_at t.memory.world.store.bays number))) in
       let b = length-map {B = ℕ × DiskSeen} s.memory.world.store.order (λ (number : ℕ). (number, disk_in (bay_at s.memory.world.store.bays number))) in

@@ -32,7 +32,7 @@ use Rattle.vm_run.specs.Played.{IsPlayable}
 use Rattle.vm_run.specs.Run.{CaseOf, Outside, opening_part, wrote_before}
 use Rattle.volume_files.specs.Texts.{Wrote, WroteFront, WroteOn, WrotePart, IsPageUnread, sections_before, trace_front}
 use Rattle.vm_run.specs.AskedTexts.{files_or_none, middle_text, trace_opening}
-use Rattle.volume_files.specs.Written.{AreFilesBytes, AreOnlyRead, IsCountedSince, WriteTables, disk_fault_counts, disk_sizes, open_fault_counts}
+use Rattle.volume_files.specs.Written.{AreFilesBytes, AreOnlyRead, IsCountedSince, WriteTables, WroteTablesTo, disk_fault_counts, disk_sizes, open_fault_counts}
 
 -- Bytes of the files, each as long as its record says; where the files' disks tell, those with which the files are opened.
 pub record AreReadBytes (files : List OpenedFile) (disks : List (ℕ × DiskSeen)) (bytes : ℕ → List ℕ) : Type 0 where
@@ -130,25 +130,27 @@ pub record ShowsClosed (o : Options) (plan : PlanSeen) (H : List Entry) (infos :
   pub reads : AreOnlyRead mid new
   pub ends : ShowEnds o plan H infos k0 k1 mid new how
 
-pub record FailsTable (o : Options) (plan : PlanSeen) (H : List Entry) (k0 k1 : SinkSeen) (old new : List (ℕ × DiskSeen)) (how : Ending) : Type 0 where
+pub record FailsTable (o : Options) (plan : PlanSeen) (H : List Entry) (infos : List FileInfo) (k0 k1 : SinkSeen) (old new : List (ℕ × DiskSeen)) (how : Ending) : Type 0 where
   pub fault : DiskFault
   pub counted : IsCountedSince old new (disk_fault_counts fault)
   pub writes : WriteTables old new
+  pub tables : WroteTablesTo infos counted.i old new
   pub ends : CloseFails o plan H fault k0 k1 how
 
-pub record LacksTable (k0 k1 : SinkSeen) (old new : List (ℕ × DiskSeen)) (how : Ending) : Type 0 where
+pub record LacksTable (infos : List FileInfo) (k0 k1 : SinkSeen) (old new : List (ℕ × DiskSeen)) (how : Ending) : Type 0 where
   pub memory : how ≡ ending.Memory
   pub writes : WriteTables old new
+  pub tables : (place : ℕ) × WroteTablesTo infos place old new
   pub wrote : Wrote k0 k1 []
 
 abbrev pub TablesEnd : Options → PlanSeen → List Entry → List FileInfo → SinkSeen → SinkSeen → List (ℕ × DiskSeen) → List (ℕ × DiskSeen) → Ending → Type 0
 TablesEnd o plan H infos k0 k1 old new how =
-    ShowsClosed o plan H infos k0 k1 old new how ⊎ FailsTable o plan H k0 k1 old new how ⊎ LacksTable k0 k1 old new how
+    ShowsClosed o plan H infos k0 k1 old new how ⊎ FailsTable o plan H infos k0 k1 old new how ⊎ LacksTable infos k0 k1 old new how
 
 -- How a run ends that was closed, by whether all lines were made and by the transfer that failed, if one did; then no table is written.
 abbrev pub CloseEnds : Bool → Option DiskFault → Options → PlanSeen → List Entry → List FileInfo → SinkSeen → SinkSeen → List (ℕ × DiskSeen) → List (ℕ × DiskSeen) → Ending → Type 0
-CloseEnds false (Some f) o plan H infos k0 k1 old new how = (new ≡ old) × LacksTable k0 k1 old new how
-CloseEnds false None o plan H infos k0 k1 old new how = LacksTable k0 k1 old new how
+CloseEnds false (Some f) o plan H infos k0 k1 old new how = (new ≡ old) × LacksTable infos k0 k1 old new how
+CloseEnds false None o plan H infos k0 k1 old new how = LacksTable infos k0 k1 old new how
 CloseEnds true (Some f) o plan H infos k0 k1 old new how = (new ≡ old) × CloseFails o plan H f k0 k1 how
 CloseEnds true None o plan H infos k0 k1 old new how = TablesEnd o plan H infos k0 k1 old new how
 

@@ -1,12 +1,16 @@
--- What the disks hold of the files once a run ended that began, whatever its status. Public clauses cite this.
-use Rattle.std.specs.Prelude.{ℕ, ◌≡◌, ◌<◌, ◌≤◌, ◌⊎◌, List, [], length, replicate, Some, IfSome, slice_get, slice_index_or}
+-- What the disks hold once a run ended that began, whatever its status. Public clauses cite this.
+use Rattle.std.specs.Prelude.{ℕ, ◌≡◌, ◌≢◌, ◌<◌, ◌≤◌, ◌⊎◌, List, [], length, replicate, Option, Some, IfSome, slice_get, slice_index_or}
 use Rattle.volume_files.specs.vm_types.declared.call.Entry.{Entry}
 use Rattle.volume_files.specs.block_device.Counts.{HasRisen}
 use Rattle.volume_files.specs.block_device.DiskSeen.{DiskSeen}
+use Rattle.volume_files.specs.block_device.declared.rack.Spec.{Spec}
+use Rattle.volume_files.specs.vm_script.PlanSeen.{PlanSeen}
+use Rattle.volume_files.specs.Handed.{AreGivenWhere}
 use Rattle.volume_files.specs.flat_model.Flat.{Flat}
 use Rattle.volume_files.specs.flat_model.History.{replay}
 use Rattle.vm_core.specs.page_hash.declared.PageName.{PageName}
 use Rattle.vm_core.specs.page_store.Bytes.{clip}
+use Rattle.vm_core.specs.vm_world.Events.{IsUnkept}
 use Rattle.vm_core.specs.vm_world.mark_laws.Pages.{after_first, bytes_there, disk_place, page_there}
 use Rattle.vm_core.specs.vm_world.mark_laws.Syncs.{HasSynced}
 
@@ -39,3 +43,7 @@ abbrev pub HoldFronts : Flat → List Entry → List (ℕ × DiskSeen) → Type 
 HoldFronts F H disks =
     (name : PageName) (i disk block : ℕ) (d : DiskSeen) → disk_place (replay F H) name ≡ Some (disk, block) → slice_get disks i ≡ Some (disk, d)
     → IfSome d.content (λ blocks. HoldsFront F H name d.faults (slice_index_or blocks block []))
+
+-- EACH BLOCK THAT NO FILE KEEPS for a page after the history is as the rack gave it, but for block 0, which has the table of the disk's files.
+abbrev pub AreUnkeptGiven : PlanSeen → (Spec → Option (List (List ℕ))) → Flat → List Entry → List DiskSeen → Type 0
+AreUnkeptGiven plan holds F H disks = AreGivenWhere plan holds disks (λ number block. (block ≢ 0) × IsUnkept (replay F H) number block)

@@ -29,11 +29,11 @@ use Rattle.vm_run.specs.declared.outcome.RunFault.{RunFault}
 use Rattle.vm_run.specs.declared.outcome.RunFault.TheVariants as fault
 use Rattle.volume_files.specs.declared.showing.Heading.TheVariants.{Report, Trace}
 use Rattle.vm_run.specs.Asked.{Given, Asked, FailsToRead, WasAsked, run_request}
-use Rattle.volume_files.specs.Closed.{StoreFiles, SayTables, infos_in_flat, flat_bytes, modes_in}
+use Rattle.volume_files.specs.Closed.{StoreFiles, SaysItsTable, SayTables, infos_in_flat, flat_bytes, modes_in}
 use Rattle.vm_run.specs.Ending.{status_of, fault_of, last_line_of}
 use Rattle.vm_run.specs.Ended.{End, HasLateCause, CountsReach}
-use Rattle.vm_run.specs.OnDisks.{HoldFronts}
-use Rattle.volume_files.specs.Handed.{AreUncounted, AreWrittenAt, HaveTold, HandsNone, HandsFront, HandsAll, HasDiskCause}
+use Rattle.vm_run.specs.OnDisks.{AreUnkeptGiven, HoldFronts}
+use Rattle.volume_files.specs.Handed.{AreGivenWhere, AreUncounted, AreWrittenAt, HaveTold, HandsNone, HandsFront, HandsAll, HasDiskCause}
 use Rattle.volume_files.specs.Handed.{HasOpeningCause, HasRefusalCause, StopsAttaching, volumes_of, sizes_of, member_count}
 use Rattle.volume_files.specs.Opened.{line_files_of, ComesTo, OpenedFile, opened_files, infos_of, names_of, numbered_plan, opening_flat}
 use Rattle.volume_files.specs.Texts.{Wrote, WroteAndFront, WroteAndPart, WroteFront, WroteOn, WrotePart, IsPageUnread, sections_before, trace_front}
@@ -168,7 +168,8 @@ pub record StopsInTrace (g : Given) (o : Outside) (e : End) : Type 0 where
 
 -- THE RUN BEGAN. Flat memory as the processes find it; where the disks tell, the history is legal for it, and a trace of both is a text that stands for them;
 -- whatever they tell, each of its entries has the signal or errno that flat memory calls due, or none where none is; and each of its device errors names a
--- fault that its disk counted. And where the disks tell, each block of a file's page holds the page as it was after a front of the history.
+-- fault that its disk counted. And where the disks tell, each block of a file's page holds the page as it was after a front of the history, and each block that
+-- no file keeps for a page, block 0 aside, is as the rack gave it.
 abbrev pub flat_opened : Asked → List OpenedFile → List DiskSeen → Flat
 flat_opened what files disks = opening_flat what.plan (sizes_of what.plan disks) files
 
@@ -191,6 +192,7 @@ pub record Begun (g : Given) (what : Asked) (files : List OpenedFile) (bytes : �
   pub counted : Counted e.history.entries
   pub reached : CountsReach what.plan e.disks e.swap e.history.entries
   pub fronts : DisksTell e → HoldFronts (flat_opened what files e.disks) e.history.entries (volumes_of what.plan e.disks)
+  pub unkept : DisksTell e → AreUnkeptGiven what.plan g.holds (flat_opened what files e.disks) e.history.entries e.disks
 
 -- The disks have its files: those with which it began, by name, disk and mode; where the disks tell, their records are those of flat memory after the
 -- history, and so are the bytes that the disks have.
@@ -203,6 +205,17 @@ pub record LeavesFiles (g : Given) (what : Asked) (files : List OpenedFile) (inf
 pub record ClosesFiles (g : Given) (what : Asked) (files : List OpenedFile) (infos : List FileInfo) (e : End) : Type 0 where
   pub left : LeavesFiles g what files infos e
   pub tables : SayTables (volumes_of what.plan e.disks) infos
+
+-- No table was written: where the disks tell, block 0 of each is as the rack gave it.
+abbrev pub WroteNoTable : Given → Asked → End → Type 0
+WroteNoTable g what e = DisksTell e → AreGivenWhere what.plan g.holds e.disks (λ number block. block ≡ 0)
+
+-- THE TABLES WERE WRITTEN UP TO THE DISK of this number, in rising number, and the disks have the files: each disk of a lower number says the table of its
+-- files; and where the disks tell, block 0 of each of a higher one is as the rack gave it.
+pub record WroteTablesBelow (g : Given) (what : Asked) (files : List OpenedFile) (infos : List FileInfo) (number : ℕ) (e : End) : Type 0 where
+  pub left : LeavesFiles g what files infos e
+  pub below : (i : ℕ) (d : ℕ × DiskSeen) → slice_get (volumes_of what.plan e.disks) i ≡ Some d → d.0 < number → SaysItsTable infos d
+  pub above : DisksTell e → AreGivenWhere what.plan g.holds e.disks (λ n block. (number < n) × (block ≡ 0))
 
 -- The bytes of the files that were read back, each as long as its record says; where the disks tell, those of flat memory after the history.
 pub record AreClosedBytes (g : Given) (what : Asked) (files : List OpenedFile) (infos : List FileInfo) (e : End) (bytes : ℕ → List ℕ) : Type 0 where
@@ -254,11 +267,13 @@ pub record EndsInReport (g : Given) (o : Outside) (e : End) : Type 0 where
   pub cause : HasRisen o.sink_old.faults o.sink_new.faults
   pub wrote : WroteAndPart o.sink_old o.sink_new (opening_of course e) (report_of course e)
 
--- A disk failed as the files were closed. The line of the fault stands in place of the files.
+-- A disk failed as the files were closed: as a page was written, and then no table was; or as its table was, once all pages were. The line of the fault
+-- stands in place of the files.
 pub record FailsToClose (g : Given) (o : Outside) (fault : DiskFault) (e : End) : Type 0 where
   pub course : Course
   pub runs : RunsThrough g course e
   pub cause : HasLateCause course.what.plan e.history e.disks e.swap fault
+  pub tables : WroteNoTable g course.what e ⊎ WroteTablesBelow g course.what course.files course.infos fault.disk e
   pub wrote : WroteOn o.sink_old o.sink_new (opening_of course e) (middle_of course e ++ disk_fault_text fault.disk fault.before fault.after)
 
 -- A disk failed as a page of a file was read back.
@@ -299,13 +314,14 @@ pub record LacksInTrace (g : Given) (o : Outside) (e : End) : Type 0 where
   pub wrote : WroteFront o.sink_old o.sink_new (opening_part what files e.disks bytes)
 
 -- Memory lacked as they ran or later: each process did a front of its lines, and the kernel was closed all the same: the disks have the files as the
--- history leaves them, or one of them failed since. The opening part was written whole; behind it a front of the report, but only where each process did
+-- history leaves them, and the tables were written up to one of them; or one failed since, and no table was. The opening part was written whole; behind it a front of the report, but only where each process did
 -- all its lines, and the files were closed and read back.
 pub record LacksLate (g : Given) (o : Outside) (e : End) : Type 0 where
   pub course : Course
   pub begun : Begun g course.what course.files course.bytes e
   pub told : ToldFront (plan_opened course.what course.files) e.history.entries
-  pub left : LeavesFiles g course.what course.files course.infos e ⊎ ((fault : DiskFault) × HasLateCause course.what.plan e.history e.disks e.swap fault)
+  pub left : ((number : ℕ) × WroteTablesBelow g course.what course.files course.infos number e)
+      ⊎ ((fault : DiskFault) × HasLateCause course.what.plan e.history e.disks e.swap fault × WroteNoTable g course.what e)
   pub wrote : Wrote o.sink_old o.sink_new (opening_of course e) ⊎ (WasShown g course e × WroteAndFront o.sink_old o.sink_new (opening_of course e) (report_of course e))
 
 abbrev pub Lacks : Given → Outside → End → Type 0

@@ -13,9 +13,9 @@ use Rattle.volume_format.specs.Table.{TableSeen}
 use Rattle.volume_format.specs.Writing.{encoding}
 use Rattle.volume_files.specs.declared.closing.TableStop.{TableStop}
 use Rattle.volume_files.specs.declared.closing.TableStop.TheVariants.{Memory, Fault}
-use Rattle.volume_files.specs.Closed.{SaysTable, SayTables, table_of_disk}
-use Rattle.volume_files.specs.Written.{HaveDisks, HaveFirstBlocks, KeepsBlocks, WriteTables, IsTableStop}
-use Rattle.volume_files.specs.DiskTables.{SaysItsTable, IsOneTableStop, TablesSoFar}
+use Rattle.volume_files.specs.Closed.{SaysItsTable, SaysTable, SayTables, table_of_disk}
+use Rattle.volume_files.specs.Written.{HaveDisks, HaveFirstBlocks, KeepsBlocks, WriteTables, WroteTablesTo, IsTableStop}
+use Rattle.volume_files.specs.DiskTables.{IsOneTableStop, TablesSoFar}
 use Rattle.volume_files.proofs.EachDisk.{Each, each_same, each_put, each_then, one_at, put_here, put_other, was_before}
 
 pub keeps_same : (d : DiskSeen) → KeepsBlocks d d
@@ -73,7 +73,7 @@ pub each_from : (old new : List (ℕ × DiskSeen)) → WriteTables old new → E
 each_from old new all = record { count = all.count; numbers = all.numbers; each = all.each }
 
 pub tables_begin : (infos : List FileInfo) (ds : List (ℕ × DiskSeen)) → TablesSoFar infos 0 ds ds
-tables_begin infos ds = record { writes = writes_from ds ds (each_same KeepsBlocks keeps_same ds); said = λ i d none at. absurd (omega (arith, none)) }
+tables_begin infos ds = record { writes = writes_from ds ds (each_same KeepsBlocks keeps_same ds); said = λ i d none at. absurd (omega (arith, none)); behind = λ i low. refl }
 
 module _ (infos : List FileInfo) (place : ℕ) (old mid : List (ℕ × DiskSeen)) (d e : ℕ × DiskSeen) (at : slice_get mid place ≡ Some d) (number : e.0 ≡ d.0)
     (keeps : KeepsBlocks d.1 e.1) (so : TablesSoFar infos place old mid) where
@@ -90,26 +90,36 @@ module _ (infos : List FileInfo) (place : ℕ) (old mid : List (ℕ × DiskSeen)
       | inl same ↦ subst (SaysItsTable infos) (one_at (slice_set mid place e) place e x (put_here mid place d e at) (ap (slice_get (slice_set mid place e)) (sym same) ∙ there)) says
       | inr other ↦ so.said i x (omega (arith, low, other)) (sym (put_other mid place i e other) ∙ there)
     ];
+    behind = λ i low. put_other mid place i e (λ same. omega (arith, low, same)) ∙ so.behind i (omega (arith, low));
   }
 
-  pub tables_stop : (stop : TableStop) → IsOneTableStop d e stop → IsTableStop old (slice_set mid place e) stop
-  tables_stop Memory is = tt
+  -- up to this disk, whatever became of it
+  tables_to : WroteTablesTo infos place old (slice_set mid place e)
+  tables_to = record {
+    before = λ i x low there. so.said i x low (sym (put_other mid place i e (λ same. omega (arith, low, same))) ∙ there);
+    behind = λ i low. put_other mid place i e (λ same. omega (arith, low, same)) ∙ so.behind i (omega (arith, low));
+  }
+
+  pub tables_stop : (stop : TableStop) → IsOneTableStop d e stop → IsTableStop infos old (slice_set mid place e) stop
+  tables_stop Memory is = (place, tables_to)
   tables_stop (Fault f) is =
-      let was = was_before KeepsBlocks old mid place d (each_from old mid so.writes) at in
-      record {
-        i = place;
-        was = was.was;
-        is = e;
-        there = was.at;
-        now = put_here mid place d e at;
-        same = number ∙ was.number;
-        fault = record {
-          number = is.0.disk ∙ sym number;
-          risen = omega (arith, is.0.before, is.0.after, is.1);
-          since = omega (arith, is.0.before, was.changed.faults);
-          last = is.0.after;
-        };
-      }
+      let was = was_before KeepsBlocks old mid place d (each_from old mid so.writes) at in (
+        record {
+          i = place;
+          was = was.was;
+          is = e;
+          there = was.at;
+          now = put_here mid place d e at;
+          same = number ∙ was.number;
+          fault = record {
+            number = is.0.disk ∙ sym number;
+            risen = omega (arith, is.0.before, is.0.after, is.1);
+            since = omega (arith, is.0.before, was.changed.faults);
+            last = is.0.after;
+          };
+        },
+        tables_to,
+      )
 
 -- what each disk has to have stays
 pub size_there : (files : FilesSeen) (old mid : List (ℕ × DiskSeen)) (place : ℕ) (d : ℕ × DiskSeen) → HaveDisks files old → WriteTables old mid

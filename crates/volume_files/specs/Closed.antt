@@ -49,10 +49,13 @@ abbrev pub StoreFiles : List (ℕ × DiskSeen) → List FileInfo → (ℕ → Li
 StoreFiles disks infos bytes =
     (i k : ℕ) (disk : ℕ × DiskSeen) → slice_get disks i ≡ Some disk → k < length infos → StoresFile disk (info_at infos k) (bytes k)
 
--- Each disk, where it tells, says the table of its files in block 0.
+-- A disk, where it tells, says the table of its files in block 0.
+abbrev pub SaysItsTable : List FileInfo → ℕ × DiskSeen → Type 0
+SaysItsTable infos disk = IfSome disk.1.content (λ blocks. SaysTable disk.0 disk.1.size infos (slice_index_or blocks 0 []))
+
+-- Each disk does.
 abbrev pub SayTables : List (ℕ × DiskSeen) → List FileInfo → Type 0
-SayTables disks infos =
-    (i : ℕ) (disk : ℕ × DiskSeen) → slice_get disks i ≡ Some disk → IfSome disk.1.content (λ blocks. SaysTable disk.0 disk.1.size infos (slice_index_or blocks 0 []))
+SayTables disks infos = (i : ℕ) (disk : ℕ × DiskSeen) → slice_get disks i ≡ Some disk → SaysItsTable infos disk
 
 -- The bytes of a file of flat memory by its number.
 abbrev pub flat_bytes : List File → ℕ → List ℕ

@@ -11,7 +11,7 @@ use Rattle.volume_format.specs.Volume.{IsVolumeTable, IsVolumeFile, IsNewName, A
 use Rattle.volume_files.specs.declared.closing.TableStop.{TableStop}
 use Rattle.volume_files.specs.declared.closing.TableStop.TheVariants as table
 use Rattle.volume_files.specs.Attached.{HaveVolumeNames}
-use Rattle.volume_files.specs.Closed.{SaysTable, table_entries}
+use Rattle.volume_files.specs.Closed.{SaysItsTable, table_entries}
 use Rattle.volume_files.specs.Written.{infos_made}
 use Rattle.volume_files.specs.Written.{LieWell, HaveExtents, WriteTables}
 
@@ -36,16 +36,13 @@ pub record IsAddableTo (t : TableSeen) (e : FileInfo) : Type 0 where
   pub name : IsNewName e.name t.entries
   pub apart : AreDisjointExtents e.extents
 
--- A disk, where it tells, says the table of its files.
-abbrev pub SaysItsTable : List FileInfo → ℕ × DiskSeen → Type 0
-SaysItsTable infos disk = IfSome disk.1.content (λ blocks. SaysTable disk.0 disk.1.size infos (slice_index_or blocks 0 []))
-
 -- Why the table of a disk wasn't written.
 abbrev pub IsOneTableStop : ℕ × DiskSeen → ℕ × DiskSeen → TableStop → Type 0
 IsOneTableStop old new table.Memory = Unit {0}
 IsOneTableStop old new (table.Fault f) = IsFaultOf old.0 old.1 new.1 f × HasRisen old.1.faults new.1.faults
 
--- The tables of so many disks were written.
+-- The tables of so many disks were written; the disks behind them are as they were.
 pub record TablesSoFar (infos : List FileInfo) (place : ℕ) (old now : List (ℕ × DiskSeen)) : Type 0 where
   pub writes : WriteTables old now
   pub said : (i : ℕ) (d : ℕ × DiskSeen) → i < place → slice_get now i ≡ Some d → SaysItsTable infos d
+  pub behind : (i : ℕ) → place ≤ i → slice_get now i ≡ slice_get old i

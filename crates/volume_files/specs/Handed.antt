@@ -154,10 +154,15 @@ SparesBlock info bytes number block = info.disk ≡ number → LiesBeside (front
 abbrev pub SpareBlock : List OpenedFile → ℕ → ℕ → Type 0
 SpareBlock files number block = All (λ f. SparesBlock f.info f.bytes number block) files
 
+-- The blocks of which this is so, by the volume's number, are as the rack gave them.
+abbrev pub AreGivenWhere : PlanSeen → (Spec → Option (List (List ℕ))) → List DiskSeen → (ℕ → ℕ → Type 0) → Type 0
+AreGivenWhere plan holds disks P =
+    (i : ℕ) (s : VolumeSpec) (d : DiskSeen) → slice_get (volume_specs plan) i ≡ Some s → slice_get disks i ≡ Some d
+    → (was : DiskSeen) × IsVolumeAttached holds s was × ((block : ℕ) → P (volume_number s) block → block_told d.content block ≡ block_told was.content block)
+
 -- The disks were written at most where the bytes of these files lie: each other block is as the rack gave it, and so is the swap disk.
 pub record AreWrittenAt (plan : PlanSeen) (holds : Spec → Option (List (List ℕ))) (files : List OpenedFile) (disks : List DiskSeen) (swap : Option DiskSeen) : Type 0 where
-  pub each : (i : ℕ) (s : VolumeSpec) (d : DiskSeen) → slice_get (volume_specs plan) i ≡ Some s → slice_get disks i ≡ Some d
-      → (was : DiskSeen) × IsVolumeAttached holds s was × ((block : ℕ) → SpareBlock files (volume_number s) block → block_told d.content block ≡ block_told was.content block)
+  pub each : AreGivenWhere plan holds disks (SpareBlock files)
   pub last : IsSwapAsGiven (amounts_of plan.setup).slots swap
 
 -- The volume has the disk of this number.

@@ -17,7 +17,7 @@ use Rattle.volume_files.specs.declared.closing.TableStop.{TableStop}
 use Rattle.volume_files.specs.declared.closing.TableStop.TheVariants as table
 use Rattle.volume_files.specs.declared.showing.ShowStop.{ShowStop}
 use Rattle.volume_files.specs.declared.showing.ShowStop.TheVariants as show
-use Rattle.volume_files.specs.Closed.{StoresFile, info_at}
+use Rattle.volume_files.specs.Closed.{SaysItsTable, StoresFile, info_at}
 use Rattle.volume_files.specs.Texts.{Wrote, WroteFront, WrotePart, IsPageUnread, file_sections, sections_before, trace_front}
 
 -- What a fault of a transfer tells: the disk's number, and its counts of faults before and after.
@@ -108,10 +108,15 @@ pub record AreFilesBytes (infos : List FileInfo) (disks : List (ℕ × DiskSeen)
   pub lengths : (k : ℕ) (info : FileInfo) → slice_get infos k ≡ Some info → length (bytes k) ≡ info.length
   pub told : (i k : ℕ) (disk : ℕ × DiskSeen) (info : FileInfo) → slice_get disks i ≡ Some disk → slice_get infos k ≡ Some info → StoresFile disk info (bytes k)
 
--- Why a table wasn't written: memory lacked, or the last transfer of a disk failed.
-abbrev pub IsTableStop : List (ℕ × DiskSeen) → List (ℕ × DiskSeen) → TableStop → Type 0
-IsTableStop old new table.Memory = Unit {0}
-IsTableStop old new (table.Fault f) = IsCountedSince old new (disk_fault_counts f)
+-- The tables were written up to a place: each disk before it says that of its files, and each behind it is as it was.
+pub record WroteTablesTo (infos : List FileInfo) (place : ℕ) (old new : List (ℕ × DiskSeen)) : Type 0 where
+  pub before : (i : ℕ) (d : ℕ × DiskSeen) → i < place → slice_get new i ≡ Some d → SaysItsTable infos d
+  pub behind : (i : ℕ) → place < i → slice_get new i ≡ slice_get old i
+
+-- Why a table wasn't written: memory lacked, or the last transfer of a disk failed. The tables were written up to that disk's place.
+abbrev pub IsTableStop : List FileInfo → List (ℕ × DiskSeen) → List (ℕ × DiskSeen) → TableStop → Type 0
+IsTableStop infos old new table.Memory = (place : ℕ) × WroteTablesTo infos place old new
+IsTableStop infos old new (table.Fault f) = (c : IsCountedSince old new (disk_fault_counts f)) × WroteTablesTo infos c.i old new
 
 -- Why files weren't shown to their end, and what was written: for want of memory a front, nothing that is no front of the text; where the sink
 -- failed, a front that isn't all of it; where a page wasn't read, all up to its place.

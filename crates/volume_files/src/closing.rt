@@ -2,8 +2,8 @@
 ghost use Rattle.std.specs.Prelude.{◌≡◌, ◌<◌, length, Some, IfErr, OnOk};
 ghost use Rattle.std.specs.FinMap as finite;
 ghost use Rattle.volume_files.specs.Attached.{HaveVolumeNames, paired_seen};
-ghost use Rattle.volume_files.specs.Closed.{SayTables};
-ghost use Rattle.volume_files.specs.DiskTables.{MakeTables, SaysItsTable, IsOneTableStop};
+ghost use Rattle.volume_files.specs.Closed.{SayTables, SaysItsTable};
+ghost use Rattle.volume_files.specs.DiskTables.{MakeTables, IsOneTableStop};
 ghost use Rattle.volume_files.specs.Written.{infos_made};
 ghost use Rattle.volume_files.specs.Written.{LieWell, HaveDisks, HaveExtents, HaveFirstBlocks, KeepsBlocks, WriteTables, IsTableStop};
 
@@ -65,9 +65,9 @@ pub fn write_tables<D: Disk>(
     // Each disk says its table, and every block but block 0 is as it was.
     ensures tables { OnOk result (SayTables (paired_seen D.seen disks.new) (infos_made files.now)) }
     ensures keeps { WriteTables (paired_seen D.seen disks.old) (paired_seen D.seen disks.new) }
-    // Why a table wasn't written.
-    ensures stop { IfErr result
-        (IsTableStop (paired_seen D.seen disks.old) (paired_seen D.seen disks.new)) }
+    // Why a table wasn't written, and up to which disk they were.
+    ensures stop { IfErr result (IsTableStop (infos_made files.now)
+        (paired_seen D.seen disks.old) (paired_seen D.seen disks.new)) }
 {
     let mut block = [0; 4096];
     for place in 0..disks.len() {

@@ -1,7 +1,7 @@
 use Rattle.std.proofs.Common.{rules, refl}
 use Rattle.vm_core.specs.page_store.Bays.{pairs_seen}
 use Rattle.volume_files.proofs.DiskLists.{writes-refl}
-use Rattle.vm_run.proofs.Endings.{lacks-closed}
+use Rattle.vm_run.proofs.Endings.{lacks-closed, no-tables}
 use Rattle.volume_files.proofs.WrittenTexts.{wrote_nothing}
 use Rattle.vm_run.proofs.ending_files.close.Goals as goal
 
@@ -11,5 +11,6 @@ returns-then-is_some-clause-ends g c =
     (record {
       memory = refl;
       writes = writes-refl (pairs_seen g.D.Disk.seen c.args.finished.now.disks.items);
+      tables = (0, no-tables _ (pairs_seen g.D.Disk.seen c.args.finished.now.disks.items));
       wrote = wrote_nothing (g.K.Sink.seen c.args.out.now);
     })

@@ -10,7 +10,8 @@ show_report-requires-clause-disks g c =
 pub returns-in-Err-Fault-clause-ends : goal.returns-in-Err-Fault-clause-ends
 returns-in-Err-Fault-clause-ends g c = inr (inl (record {
   fault = c.in-Err-Fault.fault;
-  counted = rw c.in-Err-Fault.field-0-is at c.in-Err-Fault.ensures.stop;
+  counted = (rw c.in-Err-Fault.field-0-is at c.in-Err-Fault.ensures.stop).0;
   writes = c.write_tables.ensures.keeps;
+  tables = (rw c.in-Err-Fault.field-0-is at c.in-Err-Fault.ensures.stop).1;
   ends = c.tell_fault.ensures.ends;
 }))

@@ -64,7 +64,7 @@ returns-in_err-write_table-clause-stop g c =
     let e = c.write_table.new.disk in
     let old = paired_seen seen c.args.disks.now in
     let at = there_or (λ disk. (disk.0, seen disk.1)) c.loop-place.disks place c.index-disks-place.result (omega (arith, c.loop-place-test.true, c.loop-place.auto.disks)) in
-    let stop = subst (λ (ds : List (ℕ × DiskSeen)). IsTableStop old ds c.in_err-write_table.field-0.0) (sym (map-set (λ disk. (disk.0, seen disk.1)) c.loop-place.disks place e))
+    let stop = subst (λ (ds : List (ℕ × DiskSeen)). IsTableStop infos old ds c.in_err-write_table.field-0.0) (sym (map-set (λ disk. (disk.0, seen disk.1)) c.loop-place.disks place e))
     (tables_stop infos place old (paired_seen seen c.loop-place.disks) (d.0, seen d.1)
     (e.0, seen e.1) at c.in_err-write_table.ensures.number c.in_err-write_table.ensures.keeps c.loop-place.invariant c.in_err-write_table.field-0.0 c.in_err-write_table.ensures.stop) in
     first_of (search (rules, stop), grind (arith, common_steps, stop))
