@@ -249,6 +249,7 @@ module _ (s : KernelState) (new : World) (seat : ℕ) (f : FlightSeen) (step : C
     fits = λ o x here fits. (quiet-at o x sent fits here q).fits o x here fits;
     fixed = (quiet-at opening seats own fit is p).fixed;
     disks = λ o x here fits. (quiet-at o x sent fits here q).disks o x here fits;
+    unkept = λ o x here fits. (quiet-at o x sent fits here q).unkept o x here fits;
     grown = (quiet-at opening seats own fit is p).grown;
     follows = (quiet-at opening seats own fit is p).follows;
   }
@@ -268,6 +269,7 @@ module _ (s : KernelState) (new : World) (seat : ℕ) (f : FlightSeen) (step : C
     fits = λ o x here fits. (failed-at o x sent q call calls syncs fits here c.performed c.same bad locks starts count).fits o x here fits;
     fixed = (failed-at opening seats own q call calls syncs fit is b.performed b.same bad locks starts count).fixed;
     disks = λ o x here fits. (failed-at o x sent q call calls syncs fits here c.performed c.same bad locks starts count).disks o x here fits;
+    unkept = λ o x here fits. (failed-at o x sent q call calls syncs fits here c.performed c.same bad locks starts count).unkept o x here fits;
     grown = (failed-at opening seats own q call calls syncs fit is b.performed b.same bad locks starts count).grown;
     follows = (failed-at opening seats own q call calls syncs fit is b.performed b.same bad locks starts count).follows;
   }
