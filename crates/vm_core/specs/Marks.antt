@@ -1,5 +1,5 @@
 -- How a state's marks change as it starts, and as transfers begin and end. Public clauses cite this.
-use Rattle.std.specs.Prelude.{◌≡◌, ◌⊎◌, ◌<◌, ℕ, Some, None, length, replicate}
+use Rattle.std.specs.Prelude.{◌≡◌, ◌⊎◌, ◌<◌, ◌&&◌, ℕ, Option, Some, None, length, nat_lt, replicate, if◌then◌else◌}
 use Rattle.std.specs.Option.{option_map_or}
 use Rattle.std.specs.FinMap as finite
 use Rattle.fault_entry.specs.page_hash.declared.PageName.{PageName}
@@ -9,6 +9,11 @@ use Rattle.fault_entry.specs.vnode_files.Layout.{pages_kept, disk_of_file, block
 use Rattle.fault_entry.specs.vnode_files.Vnode.{is_blank}
 use Rattle.fault_entry.specs.vm_world.Marks.{MarksSeen, HasRow, mark_row, unused_row, page_row, opening_row}
 use Rattle.disk_marks.specs.Changes.{marks_begun, marks_written, marks_spoiled}
+use Rattle.disk_marks.specs.declared.marks.Mark.{Mark}
+
+-- What is known of the block of a page that a file keeps; none where there is no such page.
+abbrev pub mark_kept : FilesSeen → MarksSeen → ℕ → ℕ → Option Mark
+mark_kept files m file page = if nat_lt file (length files.files) && nat_lt page (pages_kept files file) then Some (page_row files m file page).mark else None
 
 -- THE MARKS AS A TRANSFER BEGINS, after so many entries: the push of a file's page is kept for its seat.
 abbrev pub marks_departed : MarksSeen → ℕ → FlightSeen → ℕ → MarksSeen

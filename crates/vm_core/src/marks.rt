@@ -6,7 +6,7 @@ ghost use Rattle.fault_entry.specs.vm_world.FramesFit.{FilesFit};
 ghost use Rattle.fault_entry.specs.vm_world.Marks.{AreOpeningMarks, page_row};
 ghost use Rattle.fault_entry.specs.vnode_files.Files.{block_count, vnode_at};
 ghost use Rattle.fault_entry.specs.vnode_files.Layout.{pages_kept};
-ghost use Rattle.vm_core.specs.Marks.{AreMarkedTo, marks_departed, marks_landed};
+ghost use Rattle.vm_core.specs.Marks.{AreMarkedTo, mark_kept, marks_departed, marks_landed};
 
 use crate::state::VmState;
 use disk_marks::{DiskMarks, Mark};
@@ -81,6 +81,17 @@ impl<D: Disk> VmState<D> {
         let disk = files.info(file).disk;
         let block = files.block(file, page);
         self.marks.row(disk, block).mark
+    }
+
+    /// The same of any page; none where no file keeps it.
+    pub fn find_mark(&self, file: u32, page: u32) -> Option<Mark>
+        ensures { result ≡ mark_kept self.now.memory.world.files self.now.marks file page }
+    {
+        let files = &self.world.files;
+        if file >= files.count() || page >= files.kept(file) {
+            return None;
+        }
+        Some(self.mark(file, page))
     }
 
     // The push of a file's page is kept for its seat as it begins.
