@@ -88,8 +88,15 @@ bears-nobody (Fork child) plain q p cleared r = absurd (plain child refl)
 bears-nobody call plain q p cleared r = either (is_done r)
 
 -- An access is on the process's own space.
-pub access-own : (call : Call) → ((a : ℕ) × (n : ℕ) × (call ≡ Load a n)) ⊎ ((a : ℕ) × (n : ℕ) × (v : ℕ) × (call ≡ Store a n v)) → IsOnOwnSpace call
-access-own call is = elim is [ inl x ↦ subst IsOnOwnSpace (sym x.2) tt | inr x ↦ subst IsOnOwnSpace (sym x.3) tt ]
+pub access-own : (call : Call) → IsAccess call → IsOnOwnSpace call
+access-own (Load a n) h = tt
+access-own (Store a n v) h = tt
+access-own call h = absurd h
+
+pub access-formed : (call : Call) → IsAccess call → IsWellFormed call
+access-formed (Load a n) h = h
+access-formed (Store a n v) h = h
+access-formed call h = absurd h
 
 pub no-access : (call : Call) → ((a n : ℕ) → call ≢ Load a n) → ((a n v : ℕ) → call ≢ Store a n v) → ¬ IsAccess call
 no-access (Load a n) load store h = load a n refl
@@ -454,9 +461,10 @@ plain-marks old new p (Truncate f len) (Done r) entries m n sync cut same = absu
 plain-marks old new p call (Done r) entries m n sync cut same = same
 
 -- a load and a store are neither
-pub access-plain : (call : Call) → ((a : ℕ) × (n : ℕ) × (call ≡ Load a n)) ⊎ ((a : ℕ) × (n : ℕ) × (v : ℕ) × (call ≡ Store a n v)) → ((addr len : ℕ) → call ≢ Sync addr len) × ((f len : ℕ) → call ≢ Truncate f len)
-access-plain call (inl x) = ((λ addr len e. let z : Load x.0 x.1 ≡ Sync addr len = sym x.2 ∙ e in cc), (λ f len e. let z : Load x.0 x.1 ≡ Truncate f len = sym x.2 ∙ e in cc))
-access-plain call (inr x) = ((λ addr len e. let z : Store x.0 x.1 x.2 ≡ Sync addr len = sym x.3 ∙ e in cc), (λ f len e. let z : Store x.0 x.1 x.2 ≡ Truncate f len = sym x.3 ∙ e in cc))
+pub access-plain : (call : Call) → IsAccess call → ((addr len : ℕ) → call ≢ Sync addr len) × ((f len : ℕ) → call ≢ Truncate f len)
+access-plain (Load a n) h = ((λ addr len e. let z : Load a n ≡ Sync addr len = e in cc), (λ f len e. let z : Load a n ≡ Truncate f len = e in cc))
+access-plain (Store a n v) h = ((λ addr len e. let z : Store a n v ≡ Sync addr len = e in cc), (λ f len e. let z : Store a n v ≡ Truncate f len = e in cc))
+access-plain call h = absurd h
 
 -- What is left of the state once marks rose, or a file was cut.
 pub marked-rest : (s t u : KernelState) → t ≡ with_memory s t.memory t.pending → u ≡ with_marks t u.marks → u ≡ with_marks (with_memory s u.memory u.pending) u.marks

@@ -20,3 +20,4 @@ pub use Rattle.fault_entry.specs.addr_space as addr_space
 pub use Rattle.fault_entry.specs.page_store as page_store
 pub use Rattle.fault_entry.specs.vm_world as vm_world
 pub use Rattle.disk_marks.specs as disk_marks
+pub use Rattle.fault_entry.specs as fault_entry

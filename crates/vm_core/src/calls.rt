@@ -7,7 +7,7 @@ ghost use Rattle.fault_entry.specs.page_store.Notes.{Notes};
 ghost use Rattle.fault_entry.specs.anon_slots.Slots.{count_at};
 ghost use Rattle.fault_entry.specs.flat_model.Told.{entries_of};
 ghost use Rattle.fault_entry.specs.page_store.declared.plan.Hold.TheVariants.{File};
-ghost use Rattle.fault_entry.specs.seg_vn.declared.attempt.Attempt.TheVariants.{Busy};
+ghost use Rattle.fault_entry.specs.seg_vn.declared.attempt.Attempt.TheVariants.{Busy, Done};
 ghost use Rattle.mmap_calls.specs.Calls.{ChangesMappings};
 ghost use Rattle.proc_calls.specs.Ends as procs;
 ghost use Rattle.fault_entry.specs.vm_types.WellFormed.{IsWellFormed};
@@ -58,10 +58,31 @@ impl<D: Disk> VmState<D> {
         ensures err { OnErr result (self.new ≡ self.old) }
     {
         if let Call::Load { .. } | Call::Store { .. } = *call {
-            let answer = self.access(process, call);
-            return Ok(self.settle(seat, process, call, answer));
+            let answer = self.try_access(seat, process, call);
+            return Ok(answer.into_attempt());
         }
         self.try_other(seat, process, call)
+    }
+
+    /// Tries a load or a store of a process at its seat, as `try_call` does, and answers in few bytes: an `Attempt` has room for the
+    /// 64 bytes of a part of a read.
+    #[inline(always)]
+    pub fn try_access(&mut self, seat: u32, process: u32, call: &Call) -> Answer
+        requires access { IsAccess call.now }
+        requires fits { FitsAt self.old seat None }
+        requires may { CanTry self.old seat process call.now }
+        ensures answers { AnswersCall self.old self.new seat process call.now (attempt_of result) }
+        // The mechanisms are real.
+        ensures shown { IsShownAfterCall self.new.memory process call.now (attempt_of result) }
+        ensures slots { SlotsAfterCall self.old.memory self.new.memory.world process call.now
+            (attempt_of result) }
+        ensures hit { IsHitAfterCall self.old.memory self.new.memory.world process call.now
+            (attempt_of result) }
+        ensures event { IsEvent seat self.old None self.new None }
+        ensures marks { MarksAfterCall self.old self.new process call.now (attempt_of result) }
+    {
+        let answer = self.access(process, call);
+        self.settle(seat, process, call, answer)
     }
 
     // Tries a call that is neither a load nor a store. Not inline, so that a hit's code has no room for its values.
@@ -99,24 +120,51 @@ impl<D: Disk> VmState<D> {
         Ok(self.conclude(seat, process, call, attempt))
     }
 
-    // A load or a store is concluded with what is answered to it. A hit has arms of its own: its attempt is known there, so that none
-    // is moved but into the entry and the result.
+    // A load or a store is concluded with what is answered to it. A hit has arms of its own: its reply is known there, so that none is
+    // moved but into the entry.
     #[inline(always)]
-    fn settle(&mut self, seat: u32, process: u32, call: &Call, answer: Answer) -> Attempt
+    fn settle(&mut self, seat: u32, process: u32, call: &Call, answer: Answer) -> Answer
         requires room { length (entries_of self.old.history process)
             < room_of self.old.entries process }
         requires own { seat_of process ≡ seat }
-        ensures same { result ≡ attempt_of answer }
-        ensures new { self.new ≡ after_answer self.old seat process call.now result }
+        ensures same { result ≡ answer }
+        ensures new { self.new
+            ≡ after_answer self.old seat process call.now (attempt_of result) }
         ensures seated { seat < length self.old.syncs }
     {
         match answer {
-            Answer::Word(word) => {
-                self.conclude(seat, process, call, Attempt::Done(Reply::Word(word)))
-            }
-            Answer::Stored => self.conclude(seat, process, call, Attempt::Done(Reply::Done)),
-            _ => self.conclude(seat, process, call, answer.into_attempt()),
+            Answer::Word(word) => self.conclude_hit(seat, process, call, Reply::Word(word)),
+            Answer::Stored => self.conclude_hit(seat, process, call, Reply::Done),
+            other => self.settle_other(seat, process, call, other),
         }
+        answer
+    }
+
+    // The entry of a load or a store that moved its word is made.
+    #[inline(always)]
+    fn conclude_hit(&mut self, seat: u32, process: u32, call: &Call, reply: Reply)
+        requires room { length (entries_of self.old.history process)
+            < room_of self.old.entries process }
+        requires own { seat_of process ≡ seat }
+        ensures new { self.new ≡ after_answer self.old seat process call.now (Done reply) }
+        ensures seated { seat < length self.old.syncs }
+    {
+        self.seated(seat, process);
+        forget(&mut self.plan);
+        self.add_here(process, call, &reply);
+    }
+
+    // A load or a store that is no hit is concluded. Not inline, so that a hit's code has no room for an attempt.
+    #[inline(never)]
+    fn settle_other(&mut self, seat: u32, process: u32, call: &Call, answer: Answer)
+        requires room { length (entries_of self.old.history process)
+            < room_of self.old.entries process }
+        requires own { seat_of process ≡ seat }
+        ensures new { self.new
+            ≡ after_answer self.old seat process call.now (attempt_of answer) }
+        ensures seated { seat < length self.old.syncs }
+    {
+        let _ = self.conclude(seat, process, call, answer.into_attempt());
     }
 
     // The entry of a call that is done is made; or the plan is kept that it needs, and where a Sync began. Inline, so that an attempt that is known where it is

@@ -39,8 +39,9 @@ fn total(entries: &[u32]) -> usize
     sum
 }
 
-// Appends an entry where there is room for it. That of a word which was loaded, the most frequent, is made of its parts: a copy of
-// a call or a reply moves the 64 bytes of a file that it may hold, too.
+// Appends an entry where there is room for it. Those of a word that was loaded and of one that was stored, the most frequent, are
+// made of their parts: a copy of a call or a reply moves the 64 bytes of a file that it may hold, too.
+#[inline(always)]
 fn append(history: &mut Vec<Entry>, process: u32, call: &Call, reply: &Reply, cleared: u64)
     requires { vec_len history.old < vec_capacity history.old }
     ensures items { history.new.items ≡ history.old.items ++ record {
@@ -51,17 +52,35 @@ fn append(history: &mut Vec<Entry>, process: u32, call: &Call, reply: &Reply, cl
     } ∷ [] }
     ensures capacity { vec_capacity history.new ≡ vec_capacity history.old }
 {
-    if let Call::Load { addr, size } = *call {
-        if let Reply::Word(word) = *reply {
-            history.push_reserved(Entry {
-                process,
-                call: Call::Load { addr, size },
-                reply: Reply::Word(word),
-                cleared,
-            });
-            return;
-        }
+    match (call, reply) {
+        (&Call::Load { addr, size }, &Reply::Word(word)) => history.push_reserved(Entry {
+            process,
+            call: Call::Load { addr, size },
+            reply: Reply::Word(word),
+            cleared,
+        }),
+        (&Call::Store { addr, size, value }, Reply::Done) => history.push_reserved(Entry {
+            process,
+            call: Call::Store { addr, size, value },
+            reply: Reply::Done,
+            cleared,
+        }),
+        _ => append_copy(history, process, call, reply, cleared),
     }
+}
+
+// Appends an entry of a copy of the call and the reply. Not inline, so that a hit's code has no room for them.
+#[inline(never)]
+fn append_copy(history: &mut Vec<Entry>, process: u32, call: &Call, reply: &Reply, cleared: u64)
+    requires { vec_len history.old < vec_capacity history.old }
+    ensures items { history.new.items ≡ history.old.items ++ record {
+      process = process;
+      call = call.now;
+      reply = reply.now;
+      cleared = cleared;
+    } ∷ [] }
+    ensures capacity { vec_capacity history.new ≡ vec_capacity history.old }
+{
     history.push_reserved(Entry {
         process,
         call: *call,
@@ -117,6 +136,7 @@ impl Ledger {
     }
 
     /// Adds an entry of a process that may make one more. Takes no memory.
+    #[inline(always)]
     pub fn push(&mut self, process: u32, call: &Call, reply: &Reply, cleared: u64)
         requires { length (entries_of self.old.history process)
             < room_of self.old.entries process }

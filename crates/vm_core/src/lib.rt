@@ -23,7 +23,7 @@ mod state;
 mod syncs;
 
 pub use disk_marks::Mark;
-pub use fault_entry::{Attempt, Call, Disk, Entry, Flight, Hold, Plan, Reply};
+pub use fault_entry::{Answer, Attempt, Call, Disk, Entry, Flight, Hold, Plan, Reply};
 pub use finish::Finished;
 pub use history::KernelHistory;
 pub use kept::Kept;

@@ -105,6 +105,23 @@ impl<D: Disk> VmState<D> {
             }) }
         ensures seated { process ≤ length self.old.syncs }
     {
+        self.add_here(process, call, reply);
+    }
+
+    // The same, inline, so that of a hit no entry is made but the one in the history.
+    #[inline(always)]
+    pub(crate) fn add_here(&mut self, process: u32, call: &Call, reply: &Reply)
+        requires { length (entries_of self.old.history process)
+            < room_of self.old.entries process }
+        ensures new { self.new
+            ≡ with_next_entry self.old (record {
+              process = process;
+              call = call.now;
+              reply = reply.now;
+              cleared = self.old.pending;
+            }) }
+        ensures seated { process ≤ length self.old.syncs }
+    {
         self.ledger.push(process, call, reply, self.world.pending);
         self.world.pending = 0;
         self.syncs.set(process - 1, None);

@@ -1,38 +1,5 @@
-use Rattle.std.proofs.Common.{◌≡◌, ◌≢◌, ℕ, length, sym, ap, subst}
-use Rattle.fault_entry.specs.Answers.{attempt_of}
-use Rattle.fault_entry.specs.seg_vn.declared.attempt.Attempt.{Attempt}
-use Rattle.fault_entry.specs.vm_types.declared.call.Call.TheVariants.{Sync, Truncate}
-use Rattle.fault_entry.specs.vm_world.State.{KernelState}
-use Rattle.vm_core.specs.Answered.{MarksAfterCall}
-use Rattle.vm_core.proofs.Served.{Tries, WasServed, access-own, access-plain, no-access, plain-marks, same-marks, tries-own}
-use Rattle.vm_core.proofs.state.VmState.try_call.Given.{Over}
-use Rattle.vm_core.proofs.state.VmState.try_call.Goals.{After-settle}
+use Rattle.vm_core.proofs.Served.{no-access}
 use Rattle.vm_core.proofs.state.VmState.try_call.Goals as goal
-
--- A load or a store.
-accessed : (g : Over) (c : After-settle g) → Tries c.args.self.now c.settle.new.self c.args.seat c.args.process c.args.call.now c.settle.result
-accessed g c =
-    let e = c.access-answer.ensures in
-    tries-own c.args.seat c.args.process c.args.self.now c.access-answer.new.self c.settle.new.self c.args.call.now c.settle.result c.requires.fits (access-own c.args.call.now c.in-Load.is) c.requires.may c.requires.formed
-    (subst (λ (a : Attempt). WasServed c.args.self.now c.access-answer.new.self c.args.process c.args.call.now a) (sym c.settle.ensures.same)
-    (record { serves = e.serves; shown = e.shown; slots = e.slots; hit = e.hit; own = e.own; alive = e.alive; marks = marks }))
-    (same-marks c.args.self.now c.access-answer.new.self e.rest) c.settle.ensures.new c.settle.ensures.seated
-  where
-    plain : ((addr len : ℕ) → c.args.call.now ≢ Sync addr len) × ((f len : ℕ) → c.args.call.now ≢ Truncate f len)
-    plain = access-plain c.args.call.now c.in-Load.is
-
-    marks : MarksAfterCall c.args.self.now c.access-answer.new.self c.args.process c.args.call.now (attempt_of c.access-answer.result)
-    marks = plain-marks c.args.self.now.memory c.access-answer.new.self.memory c.args.process c.args.call.now (attempt_of c.access-answer.result) (length c.args.self.now.history) c.args.self.now.marks c.access-answer.new.self.marks plain.0 plain.1
-        (ap (λ (s : KernelState). s.marks) c.access-answer.ensures.rest)
-
-pub returns-in-Load-clause-answers : goal.returns-in-Load-clause-answers
-returns-in-Load-clause-answers g c = (accessed g c).answers
-
-pub returns-in-Load-clause-event : goal.returns-in-Load-clause-event
-returns-in-Load-clause-event g c = (accessed g c).event
-
-pub returns-in-Load-clause-marks : goal.returns-in-Load-clause-marks
-returns-in-Load-clause-marks g c = (accessed g c).marks
 
 -- Another call.
 pub try_other-requires-clause-other : goal.try_other-requires-clause-other
