@@ -11,20 +11,20 @@ use Rattle.joined_disk.specs.declared.joined.JoinedDisk.TheVariants.{Plain, Stri
 -- It is seen as the disk that it is, as a stripe, or as a mirror.
 abbrev pub joined_seen : {D : Type 0} {disk : _} → (D → DiskSeen) → JoinedDisk D disk → DiskSeen
 joined_seen seen (Plain d) = seen d
-joined_seen seen (Striped s) = stripe_seen_by seen (stripe_disks s)
-joined_seen seen (Mirrored m) = mirror_seen seen (mirror_look m)
+joined_seen seen (Striped s) = stripe_seen_by seen (stripe_disks s.value)
+joined_seen seen (Mirrored m) = mirror_seen seen (mirror_look m.value)
 
 -- the disk that it is, or the two that it stands for
 abbrev pub joined_parts : {D : Type 0} {disk : _} → JoinedDisk D disk → D × Option D
 joined_parts (Plain d) = (d, None)
-joined_parts (Striped s) = ((stripe_disks s).0, Some (stripe_disks s).1)
-joined_parts (Mirrored m) = ((mirror_look m).a, Some (mirror_look m).b)
+joined_parts (Striped s) = ((stripe_disks s.value).0, Some (stripe_disks s.value).1)
+joined_parts (Mirrored m) = ((mirror_look m.value).a, Some (mirror_look m.value).b)
 
 -- It stands for one disk or for these two: striped, or mirrored, each block fresh on the first alone.
 abbrev pub StandsFor : {D : Type 0} {disk : _} → (D → DiskSeen) → D → Option D → Bool → JoinedDisk D disk → Type 0
 StandsFor seen a None mirror (Plain d) = d ≡ a
-StandsFor seen a (Some b) false (Striped s) = stripe_disks s ≡ (a, b)
-StandsFor seen a (Some b) true (Mirrored m) = mirror_look m ≡ new_mirror a b (seen a).size
+StandsFor seen a (Some b) false (Striped s) = stripe_disks s.value ≡ (a, b)
+StandsFor seen a (Some b) true (Mirrored m) = mirror_look m.value ≡ new_mirror a b (seen a).size
 StandsFor seen a b mirror d = ⊥
 
 -- A mirror of two disks, as it is seen by what is seen of them: each of its blocks is fresh on one of them, and is that one's block.

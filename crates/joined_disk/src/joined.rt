@@ -5,12 +5,12 @@ use disk_mirror::Mirror;
 use disk_stripe::{Disk, Failed, Pairing, Stripe};
 use std::alloc::Global;
 
-/// A disk as it is, or one that stands for two.
+/// A disk as it is, or one that stands for two, which lies in a box: each transfer moves its disk, so that one should be small.
 #[derive(Drop)]
 pub enum JoinedDisk<D: Disk> {
     Plain(D),
-    Striped(Stripe<D>),
-    Mirrored(Mirror<D>),
+    Striped(Box<Stripe<D>>),
+    Mirrored(Box<Mirror<D>>),
 }
 
 impl<D: Disk> JoinedDisk<D> {
@@ -27,11 +27,11 @@ impl<D: Disk> JoinedDisk<D> {
         match self {
             JoinedDisk::Plain(disk) => (disk, None),
             JoinedDisk::Striped(stripe) => {
-                let (a, b) = stripe.parts();
+                let (a, b) = Box::into_inner(stripe).parts();
                 (a, Some(b))
             }
             JoinedDisk::Mirrored(mirror) => {
-                let (a, b) = mirror.parts();
+                let (a, b) = Box::into_inner(mirror).parts();
                 (a, Some(b))
             }
         }
@@ -88,8 +88,8 @@ impl<D: Disk> Disk for JoinedDisk<D> {
 
     ghost has_blocks = { elim [
       | Plain d ↦ D.has_blocks d
-      | Striped s ↦ blocks_of_stripe D.has_blocks s
-      | Mirrored m ↦ blocks_of_mirror D.has_blocks m
+      | Striped s ↦ blocks_of_stripe D.has_blocks s.value
+      | Mirrored m ↦ blocks_of_mirror D.has_blocks m.value
     ] };
 }
 
@@ -114,11 +114,24 @@ impl<D: Disk> Pairing<D> for JoinedDisk<D> {
             return Ok(JoinedDisk::Plain(a));
         };
         if !mirror {
-            return Ok(JoinedDisk::Striped(Stripe::new(a, b)));
+            return match Box::new(alloc, Stripe::new(a, b)) {
+                Ok(stripe) => Ok(JoinedDisk::Striped(stripe)),
+                Err(full) => {
+                    let (a, b) = full.value.parts();
+                    Err((a, Some(b)))
+                }
+            };
         }
-        match Mirror::new(alloc, a, b) {
+        let mirror = match Mirror::new(alloc, a, b) {
+            Ok(mirror) => mirror,
+            Err((a, b)) => return Err((a, Some(b))),
+        };
+        match Box::new(alloc, mirror) {
             Ok(mirror) => Ok(JoinedDisk::Mirrored(mirror)),
-            Err((a, b)) => Err((a, Some(b))),
+            Err(full) => {
+                let (a, b) = full.value.parts();
+                Err((a, Some(b)))
+            }
         }
     }
 
