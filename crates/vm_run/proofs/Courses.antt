@@ -246,6 +246,12 @@ module _ (st : ℕ) (ft : Option RunFault) (g : Given) (what : Asked) (files : L
             ∙ given.2 block (lines-spare what.plan g.holds files a made ready.placed plan (disk_sizes a.disks) l.history.entries (volume_number sp) block none),
       )
 
+  low-volume : (i : ℕ) (sp : VolumeSpec) (d : DiskSeen) → slice_get (setup_volumes what.plan.setup) i ≡ Some sp → slice_get (bare_disks new) i ≡ Some d → volume_number sp < 8
+  low-volume i sp d si di =
+      let x = in-map (λ (p : ℕ × DiskSeen). p.1) new i d di in
+      let y = mate new l.disks (sym w.numbers) i x.0 x.1 in
+      subst (λ (n : ℕ). n < 8) (number-at i sp y.0 si y.1) (low-disks what.plan l.disks numbers-of-left i y.0 y.1)
+
   -- what its blocks that no file keeps hold
   unkept : DisksTell ended → AreUnkeptGiven what.plan g.holds (flat_opened what files (bare_disks new)) l.history.entries (bare_disks new)
   unkept t i sp d si di =
@@ -254,20 +260,14 @@ module _ (st : ℕ) (ft : Option RunFault) (g : Given) (what : Asked) (files : L
         given.0,
         given.1,
         λ block none.
-            given.2 block (subst (λ (F : Flat). IsUnkept (replay F l.history.entries) (volume_number sp) block) (sym flat-same) none.1)
+            given.2 block (subst (λ (F : Flat). IsUnkept (replay F l.history.entries) (volume_number sp) block) (sym flat-same) (low-volume i sp d si di, none.1))
             (λ y at. ap (λ (q : DiskSeen). block_told q.content block) (sym x.2) ∙ told-kept y.1 x.0.1 block (w.each i y x.0 at x.1) none.0),
       )
 
   -- block 0 of a disk, which no file keeps
   first-unkept : DisksTell ended → (i : ℕ) (sp : VolumeSpec) (d : DiskSeen) → slice_get (setup_volumes what.plan.setup) i ≡ Some sp → slice_get (bare_disks new) i ≡ Some d
       → IsUnkept closed-flat (volume_number sp) 0
-  first-unkept t i sp d si di =
-      let x = in-map (λ (p : ℕ × DiskSeen). p.1) new i d di in
-      let y = mate new l.disks (sym w.numbers) i x.0 x.1 in
-      (
-        subst (λ (n : ℕ). n < 8) (number-at i sp y.0 si y.1) (low-disks what.plan l.disks numbers-of-left i y.0 y.1),
-        λ name at. let past = left.places (told-left t) name (volume_number sp) 0 at in absurd (omega (arith, past)),
-      )
+  first-unkept t i sp d si di = (low-volume i sp d si di, λ name at. let past = left.places (told-left t) name (volume_number sp) 0 at in omega (arith, past))
 
   -- the tables that were written
   pub no-table : new ≡ l.disks → WroteNoTable g what ended

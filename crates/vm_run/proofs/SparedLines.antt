@@ -1,9 +1,10 @@
 -- Blocks that no file keeps for a page were not written as the bytes of the script's files were placed.
 use Rattle.std.proofs.Common.{◌≡◌, ◌⊎◌, ℕ, zero, suc, ◌+◌, ◌<◌, ◌≤◌, ◌-◌, Bool, true, false, List, [], ◌∷◌, ◌++◌, length, map, Option, Some, None, refl, sym, ap, ◌∙◌, inl, inr, subst, arith, append-nil}
-use Rattle.std.specs.Prelude.{All, IfOk, Ok, Err, Result, drop, flat_map, nat_le, nat_lt, option_and_then, option_map, slice_get, if◌then◌else◌}
+use Rattle.std.specs.Prelude.{All, IfOk, Ok, Err, Result, drop, nat_le, nat_lt, option_and_then, option_map, slice_get, if◌then◌else◌}
 use Rattle.std.specs.List.{AllByRecursion, list_any, range_with_len, sum_by}
 use Rattle.std.specs.Str.{bytes_eq}
-use Rattle.std.proofs.lemmas.List.{append_assoc, length-append, length-map}
+use Rattle.std.proofs.lemmas.List.{append_assoc}
+use Rattle.std.proofs.lemmas.List.Sums.{sum_by-cons}
 use Rattle.std.proofs.lemmas.List.FromFn.{get_or-range_with_len, length-range_with_len}
 use Rattle.volume_files.proofs.flat_model.Bytes.{All-slice_get}
 use Rattle.std.proofs.lemmas.Option.{none-some, same_Some, slice_get_within, slice_get-get_or}
@@ -32,6 +33,7 @@ use Rattle.volume_files.specs.Attached.{ArePlaced, AttachedSeen, HasItsBytes}
 use Rattle.volume_files.specs.Handed.{LiesBeside, SpareBlock, SparesBlock}
 use Rattle.volume_files.specs.Opened.{OpenedFile, extents_of_disk, if_few, infos_of, line_files_of, names_of, new_file, opened_flat_file, opening_flat, place_for, with_line_file, with_line_files, with_placed}
 use Rattle.volume_files.proofs.DiskLists.{at-map, to-all}
+use Rattle.volume_files.proofs.LineLemmas.{err-ok, same_Ok}
 
 -- A file has one extent.
 HasOneExtent : OpenedFile → Type 0
@@ -72,23 +74,20 @@ all-joined : (xs ys : List OpenedFile) → AllByRecursion HasOneExtent xs → Al
 all-joined [] ys a b = b
 all-joined (x ∷ xs) ys a b = (a.0, all-joined xs ys a.1 b)
 
-err-lines : (sizes : ℕ → ℕ) (r : Refusal) (setup : List SetupLine) (after : List OpenedFile) → with_line_files sizes (Err r) setup ≡ Ok after → ⊥
-err-lines sizes r setup after is = cc
-
 lines-one : (sizes : ℕ → ℕ) (setup : List SetupLine) (before after : List OpenedFile) → with_line_files sizes (Ok before) setup ≡ Ok after → AddsOne before after
-lines-one sizes [] before after is = let same : before ≡ after = cc in subst (AddsOne before) same (adds-none before)
+lines-one sizes [] before after is = subst (AddsOne before) (same_Ok before after is) (adds-none before)
 lines-one sizes (l ∷ setup) before after is =
     elim (with_line_file sizes before l.act) as (λ (r : Result (List OpenedFile) Refusal). IfOk r (AddsOne before) → with_line_files sizes r setup ≡ Ok after → AddsOne before after) [
       | Ok next ↦ λ adds rest.
           let more = lines-one sizes setup next after rest in
           (adds.0 ++ more.0, more.1 ∙ ap (λ (fs : List OpenedFile). fs ++ more.0) adds.1 ∙ append_assoc before adds.0 more.0, all-joined adds.0 more.0 adds.2 more.2)
-      | Err e ↦ λ adds rest. absurd (err-lines sizes e setup after rest)
+      | Err e ↦ λ adds rest. absurd (err-ok e after rest)
     ] (act-one sizes before l.act) is
 
 few-lines : (sizes : ℕ → ℕ) (found after : List OpenedFile) (setup : List SetupLine) → with_line_files sizes (if_few (Ok found)) setup ≡ Ok after → AddsOne found after
 few-lines sizes found after setup is =
     elim (nat_lt 64 (length found)) as (λ (t : Bool). with_line_files sizes (if t then Err (refusal.Rule 10) else Ok found) setup ≡ Ok after → AddsOne found after) [
-      | true ↦ λ rest. absurd (err-lines sizes (refusal.Rule 10) setup after rest)
+      | true ↦ λ rest. absurd (err-ok (refusal.Rule 10) after rest)
       | false ↦ λ rest. lines-one sizes setup found after rest
     ] is
 
@@ -143,7 +142,7 @@ module _ (plan : PlanSeen) (holds : Spec → Option (List (List ℕ))) (files : 
       long : f.info.length ≤ one.0.pages * 4096
       long =
           let within = sound.within in
-          let count : sum_by (λ (x : Extent). x.pages) f.info.extents ≡ one.0.pages + 0 = ap (sum_by (λ (x : Extent). x.pages)) one.1 in
+          let count : sum_by (λ (x : Extent). x.pages) f.info.extents ≡ one.0.pages + 0 = ap (sum_by (λ (x : Extent). x.pages)) one.1 ∙ sum_by-cons (λ (x : Extent). x.pages) one.0 [] in
           omega (arith, within, count)
 
       kept : ¬ (block < front_block f.info.extents) → block < front_block f.info.extents + pages_in (length f.bytes)

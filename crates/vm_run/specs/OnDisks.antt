@@ -10,7 +10,6 @@ use Rattle.volume_files.specs.flat_model.Flat.{Flat}
 use Rattle.volume_files.specs.flat_model.History.{replay}
 use Rattle.vm_core.specs.page_hash.declared.PageName.{PageName}
 use Rattle.vm_core.specs.page_store.Bytes.{clip}
-use Rattle.vm_core.specs.vm_world.Events.{IsUnkept}
 use Rattle.vm_core.specs.vm_world.mark_laws.Pages.{after_first, bytes_there, disk_place, page_there}
 use Rattle.vm_core.specs.vm_world.mark_laws.Syncs.{HasSynced}
 
@@ -46,4 +45,5 @@ HoldFronts F H disks =
 
 -- EACH BLOCK THAT NO FILE KEEPS for a page after the history is as the rack gave it, but for block 0, which has the table of the disk's files.
 abbrev pub AreUnkeptGiven : PlanSeen → (Spec → Option (List (List ℕ))) → Flat → List Entry → List DiskSeen → Type 0
-AreUnkeptGiven plan holds F H disks = AreGivenWhere plan holds disks (λ number block. (block ≢ 0) × IsUnkept (replay F H) number block)
+AreUnkeptGiven plan holds F H disks =
+    AreGivenWhere plan holds disks (λ number block. (block ≢ 0) × ((name : PageName) → disk_place (replay F H) name ≢ Some (number, block)))
