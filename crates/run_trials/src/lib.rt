@@ -20,6 +20,8 @@ mod forest_tests;
 #[cfg(test)]
 mod gated_rack;
 #[cfg(test)]
+mod given_tests;
+#[cfg(test)]
 mod joined_tests;
 #[cfg(test)]
 mod kept_tests;
