@@ -12,7 +12,7 @@ use Rattle.volume_files.specs.Opened.{volume_number, volume_numbered}
 use Rattle.volume_files.proofs.MountSpecs.{volume_is}
 
 -- Each number is below all behind it.
-Rise : List ℕ → Type 0
+abbrev Rise : List ℕ → Type 0
 Rise [] = Unit {0}
 Rise (n ∷ ns) = AllByRecursion (λ (m : ℕ). n < m) ns × Rise ns
 

@@ -1,5 +1,5 @@
 -- Blocks that no file keeps for a page were not written as the bytes of the script's files were placed.
-use Rattle.std.proofs.Common.{◌≡◌, ◌⊎◌, ℕ, zero, suc, ◌+◌, ◌<◌, ◌≤◌, ◌-◌, Bool, true, false, List, [], ◌∷◌, ◌++◌, length, map, Option, Some, None, refl, sym, ap, ◌∙◌, inl, inr, subst, arith, append-nil}
+use Rattle.std.proofs.Common.{◌≡◌, ◌⊎◌, ℕ, zero, suc, ◌+◌, ◌<◌, ◌≤◌, ◌-◌, ◌*◌, Bool, true, false, List, [], ◌∷◌, ◌++◌, length, map, Option, Some, None, refl, sym, ap, ◌∙◌, inl, inr, subst, arith, append-nil}
 use Rattle.std.specs.Prelude.{All, IfOk, Ok, Err, Result, drop, nat_le, nat_lt, option_and_then, option_map, slice_get, if◌then◌else◌}
 use Rattle.std.specs.List.{AllByRecursion, list_any, range_with_len, sum_by}
 use Rattle.std.specs.Str.{bytes_eq}
@@ -36,11 +36,11 @@ use Rattle.volume_files.proofs.DiskLists.{at-map, to-all}
 use Rattle.volume_files.proofs.LineLemmas.{err-ok, same_Ok}
 
 -- A file has one extent.
-HasOneExtent : OpenedFile → Type 0
+abbrev HasOneExtent : OpenedFile → Type 0
 HasOneExtent f = (e : Extent) × (f.info.extents ≡ e ∷ [])
 
 -- what a line adds: nothing, or a file with one extent
-AddsOne : List OpenedFile → List OpenedFile → Type 0
+abbrev AddsOne : List OpenedFile → List OpenedFile → Type 0
 AddsOne before after = (lines : List OpenedFile) × (after ≡ before ++ lines) × AllByRecursion HasOneExtent lines
 
 adds-none : (before : List OpenedFile) → AddsOne before before
@@ -93,8 +93,10 @@ few-lines sizes found after setup is =
 
 -- an element behind a front
 behind-front : {A : Type 0} (xs ys : List A) (j : ℕ) (y : A) → slice_get ys j ≡ Some y → slice_get (xs ++ ys) (length xs + j) ≡ Some y
-behind-front [] ys j y at = at
-behind-front (x ∷ xs) ys j y at = behind-front xs ys j y at
+behind-front [] ys j y at = let same : j ≡ 0 + j = omega arith in subst (λ (n : ℕ). slice_get ys n ≡ Some y) same at
+behind-front (x ∷ xs) ys j y at =
+    let same : suc (length xs + j) ≡ suc (length xs) + j = omega arith in
+    subst (λ (n : ℕ). slice_get (x ∷ xs ++ ys) n ≡ Some y) same (behind-front xs ys j y at)
 
 front-dropped : {A : Type 0} (xs ys : List A) → drop (length xs) (xs ++ ys) ≡ ys
 front-dropped [] ys = refl

@@ -1,5 +1,5 @@
 -- HOW A RUN ENDED, case by case. Public clauses cite this.
-use Rattle.std.specs.Prelude.{ℕ, ◌≡◌, ◌≢◌, ◌+◌, ◌≤◌, ◌⊎◌, true, List, [], ◌++◌, length, slice_get, IsSome, IsTrue, Option, Some, None, Ok, Err}
+use Rattle.std.specs.Prelude.{ℕ, ◌≡◌, ◌≢◌, ◌+◌, ◌≤◌, ◌<◌, ◌⊎◌, true, List, [], ◌++◌, length, slice_get, IsSome, IsTrue, Option, Some, None, Ok, Err}
 use Rattle.volume_files.specs.vm_types.declared.call.Entry.{Entry}
 use Rattle.volume_files.specs.block_device.Counts.{HasRisen}
 use Rattle.volume_files.specs.block_device.DiskSeen.{DiskSeen}
