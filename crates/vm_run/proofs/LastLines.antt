@@ -72,7 +72,6 @@ module _ (g : Given) (s0 s1 r0 r1 n0 n1 : ℕ) (k0 k1 k2 : SinkSeen) (e : End) (
   line-told (ending.Refused r) (inr c) w = inr (record {
     what = c.what;
     asked = c.asked;
-    handed = c.handed;
     history = c.history;
     cause = c.cause;
     wrote = on_behind k0 k1 k2 [] (last_line_of (ending.Refused r)) first c.wrote w;
@@ -136,7 +135,6 @@ module _ (g : Given) (s0 s1 r0 r1 n0 n1 : ℕ) (k0 k1 k2 : SinkSeen) (e : End) (
     what = c.what;
     asked = c.asked;
     handed = c.handed;
-    same = c.same;
     counted = c.counted;
     history = c.history;
     wrote = still_wrote k0 k1 k2 [] c.wrote (silent k1 k2 w);
