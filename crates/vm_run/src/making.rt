@@ -1,15 +1,40 @@
 //! One call of the one process, made on the kernel with the transfers that it needs.
 ghost use Rattle.std.specs.Prelude.{◌≡◌, ◌<◌, ℕ, length, Some, None, option_map, IfOk, OnErr};
 ghost use Rattle.vm_core.specs.Finish.{FitsStill};
+ghost use Rattle.vm_core.specs.Fits.{FitsAt};
+ghost use Rattle.vm_core.specs.Flights.{EndsWith};
 ghost use Rattle.vm_core.specs.Calls.{TakesMemory};
+ghost use Rattle.vm_core.specs.page_store.Flight.{fresh};
 ghost use Rattle.vm_core.specs.vm_world.Events.{IsEvent};
 ghost use Rattle.vm_kernel.specs.Turns.{MayCall};
 ghost use Rattle.vm_run.specs.Lines.{alone_caller, alone_kernel, AreOfOne, HasOneMore, GrowsWith};
-ghost use Rattle.vm_run.specs.Transfers.{MakesTransfer};
+ghost use Rattle.vm_run.specs.Transfers.{MakesTransfer, ComesHome, sent_for};
 
 use std::alloc::AllocError;
-use vm_core::{Attempt, Plan, VmState};
+use vm_core::{Attempt, Flight, Plan, VmState};
 use volume_files::{Call, Disk, Reply};
+
+/// Makes the transfer of a flight that left for this process and call, and ends it. Inline, and the flight is taken as it leaves, so
+/// that it isn't moved on its way.
+#[inline(always)]
+fn bring_home<D: Disk>(
+    mut flight: Flight<D>,
+    state: &mut VmState<D>,
+    of: Option<(u32, &Call)>,
+) -> Option<Reply>
+    requires fresh { flight.outcome ≡ fresh }
+    requires out { FitsAt state.old 0 (Some (sent_for flight
+        (option_map (λ (c : ℕ × _). (c.0, c.1.now)) of))) }
+    ensures event { IsEvent 0 state.old (Some (sent_for flight
+        (option_map (λ (c : ℕ × _). (c.0, c.1.now)) of.entry))) state.new None }
+    ensures entry { EndsWith state.old state.new
+        (option_map (λ (c : ℕ × _). (c.0, c.1.now)) of.entry) result }
+    ensures comes { ComesHome state.old state.new flight
+        (option_map (λ (c : ℕ × _). (c.0, c.1.now)) of.entry) result }
+{
+    let _ = flight.perform();
+    state.end(0, flight, of)
+}
 
 /// Makes the transfer of the plan that was answered last. Some, with the device error, where it was for a call and failed. Inline, so
 /// that the flight isn't moved.
@@ -31,9 +56,7 @@ pub fn transfer<D: Disk>(
     ensures goes { MakesTransfer state.old state.new plan
         (option_map (λ (c : ℕ × _). (c.0, c.1.now)) of.entry) result }
 {
-    let mut flight = state.begin(0, plan);
-    let _ = flight.perform();
-    state.end(0, flight, of)
+    bring_home(state.begin(0, plan), state, of)
 }
 
 /// Makes a call of process 1 to its end, over so many frames. The error is want of memory; no entry is made then. Inline, so that
