@@ -1,7 +1,8 @@
-use Rattle.std.proofs.Common.{rules, refl}
+use Rattle.std.proofs.Common.{arith, refl, rules}
+use Rattle.std.proofs.lemmas.Grind.{common_steps}
 use Rattle.vm_core.specs.page_store.Bays.{pairs_seen}
 use Rattle.volume_files.proofs.DiskLists.{writes-refl}
-use Rattle.vm_run.proofs.Endings.{lacks-closed, no-tables}
+use Rattle.vm_run.proofs.Endings.{lacks-closed, no-tables, tables-to}
 use Rattle.volume_files.proofs.WrittenTexts.{wrote_nothing}
 use Rattle.vm_run.proofs.ending_files.close.Goals as goal
 
@@ -14,3 +15,8 @@ returns-then-is_some-clause-ends g c =
       tables = (0, no-tables _ (pairs_seen g.D.Disk.seen c.args.finished.now.disks.items));
       wrote = wrote_nothing (g.K.Sink.seen c.args.out.now);
     })
+
+pub returns-then-not-is_whole-clause-ends : goal.returns-then-not-is_whole-clause-ends
+returns-then-not-is_whole-clause-ends g c =
+    let made = tables-to _ _ _ c.write_tables.ensures.keeps c.write_tables.result c.write_tables.ensures.tables c.write_tables.ensures.stop in
+    first_of (search (rules, made), grind (arith, common_steps, made))
