@@ -117,6 +117,7 @@ module _ (g : Given) (s0 s1 r0 r1 n0 n1 : ℕ) (k0 k1 k2 : SinkSeen) (e : End) (
     course = c.course;
     runs = c.runs;
     cause = c.cause;
+    tables = c.tables;
     wrote = still-on k0 k1 k2 _ _ c.wrote later (silent k1 k2 w);
   }
   line-told (ending.Showing f) c w = record {
