@@ -7,7 +7,7 @@ ghost use Rattle.fault_entry.specs.page_store.Notes.{Notes};
 ghost use Rattle.fault_entry.specs.anon_slots.Slots.{count_at};
 ghost use Rattle.fault_entry.specs.flat_model.Told.{entries_of};
 ghost use Rattle.fault_entry.specs.page_store.declared.plan.Hold.TheVariants.{File};
-ghost use Rattle.fault_entry.specs.seg_vn.declared.attempt.Attempt.TheVariants.{Busy, Done};
+ghost use Rattle.fault_entry.specs.seg_vn.declared.attempt.Attempt.TheVariants.{Busy, Done, Need};
 ghost use Rattle.mmap_calls.specs.Calls.{ChangesMappings};
 ghost use Rattle.proc_calls.specs.Ends as procs;
 ghost use Rattle.fault_entry.specs.vm_types.WellFormed.{IsWellFormed};
@@ -25,7 +25,7 @@ ghost use Rattle.fault_entry.specs.seg_vn.Serves.{Serves};
 
 use crate::kept::{Kept, forget};
 use crate::state::VmState;
-use fault_entry::{Answer, Attempt, Call, Disk, Reply};
+use fault_entry::{Answer, Attempt, Call, Disk, Plan, Reply};
 use std::alloc::AllocError;
 
 impl<D: Disk> VmState<D> {
@@ -135,6 +135,7 @@ impl<D: Disk> VmState<D> {
         match answer {
             Answer::Word(word) => self.conclude_hit(seat, process, call, Reply::Word(word)),
             Answer::Stored => self.conclude_hit(seat, process, call, Reply::Done),
+            Answer::Need(plan) => self.conclude_need(seat, process, call, plan),
             other => self.settle_other(seat, process, call, other),
         }
         answer
@@ -154,7 +155,25 @@ impl<D: Disk> VmState<D> {
         self.add_here(process, call, &reply);
     }
 
-    // A load or a store that is no hit is concluded. Not inline, so that a hit's code has no room for an attempt.
+    // The plan is kept that a load or a store needs, without an attempt, which has room for a part of a read.
+    #[inline(always)]
+    fn conclude_need(&mut self, seat: u32, process: u32, call: &Call, plan: Plan)
+        requires room { length (entries_of self.old.history process)
+            < room_of self.old.entries process }
+        requires own { seat_of process ≡ seat }
+        ensures new { self.new ≡ after_answer self.old seat process call.now (Need plan) }
+        ensures seated { seat < length self.old.syncs }
+    {
+        self.seated(seat, process);
+        self.begin_call(seat, call);
+        self.plan = Some(Kept {
+            seat,
+            plan,
+            of: Some((process, *call)),
+        });
+    }
+
+    // A load or a store that has a signal or has to wait is concluded. Not inline, so that a hit's code has no room for an attempt.
     #[inline(never)]
     fn settle_other(&mut self, seat: u32, process: u32, call: &Call, answer: Answer)
         requires room { length (entries_of self.old.history process)
