@@ -53,7 +53,9 @@ fn leave<D: Disk>(world: &mut World<D>, seat: u32, plan: Plan) -> Flight<D>
 impl<D: Disk> VmState<D> {
     /// Begins the transfer of the kept plan: the frame and the disk leave with the flight.
     ///
-    /// Takes no memory, and makes no disk call. Time: one page, and the page's translations.
+    /// Takes no memory, and makes no disk call. Time: one page, and the page's translations. Inline, so that the flight is moved
+    /// less.
+    #[inline(always)]
     pub fn begin(&mut self, seat: u32, plan: Plan) -> Flight<D>
         requires fits { FitsAt self.old seat None }
         requires kept { (kept : KeptPlan) × IsKeptFor self.old seat plan kept }
