@@ -1,5 +1,5 @@
 -- The calls of lines.
-use Rattle.std.proofs.Common.{◌≡◌, ℕ, ◌+◌, ◌≤◌, ◌<◌, ◌^◌, ◌∙◌, List, [], ◌∷◌, ◌++◌, length, refl, sym, ap, subst, inl, arith, append-nil, ◌⊎◌, inr, None}
+use Rattle.std.proofs.Common.{◌≡◌, ◌≢◌, ℕ, ◌+◌, ◌≤◌, ◌<◌, ◌^◌, ◌∙◌, List, [], ◌∷◌, ◌++◌, length, refl, sym, ap, subst, inl, arith, append-nil, ◌⊎◌, inr, None}
 use Rattle.std.specs.Prelude.{drop, Result, Ok, Err, OnOk}
 use Rattle.std.proofs.lemmas.List.{length-take}
 use Rattle.vm_script.specs.vm_types.declared.call.Call.{Call}
@@ -20,7 +20,7 @@ use Rattle.vm_kernel.specs.Callers.{KernelSeen, CallerSeen}
 use Rattle.vm_kernel.specs.Turns.{MayCall}
 use Rattle.block_runs.specs.Callers.{rooms, IsCaller, HasMade}
 use Rattle.block_runs.specs.Conditions.{IsFitCall, IsFitAct, MayMakeLine}
-use Rattle.block_runs.specs.Lines.{IsCallLine}
+use Rattle.block_runs.specs.Lines.{IsCallLine, NamesFile}
 use Rattle.block_runs.specs.Parts.{FillsLine, MakesParts, MayMakeParts}
 use Rattle.block_runs.specs.Rows.{MakesLine}
 use Rattle.block_runs.proofs.Parting.{PartsMade, count_first, fills_first, parts_start, part_may, parts_end}
@@ -149,3 +149,9 @@ module _ (kernel : KernelSeen) (v : CallerSeen) (l : PlanLine) (c : Call) (is : 
   plain_made w r made =
       line_made kernel v l (record { call = c; bytes = [] }) alone w
       (parts_end kernel v v w c [] c [] r starts made (no_next c r [] (no_part c (subst IsFitAct is may.fit).1)))
+
+-- A line that makes calls, and isn't one call by itself, names a file.
+pub names_file : (a : PlanAct) → IsCallLine a → ((call : Call) → a ≢ act.Call call) → NamesFile a
+names_file (act.Call call) line other = other call refl
+names_file act.Wait line other = line
+names_file a line other = tt

@@ -61,6 +61,12 @@ IsCallLine (act.Call (call.Fork c)) = ⊥
 IsCallLine act.Wait = ⊥
 IsCallLine a = Unit {0}
 
+-- A line that names a file: a call with its file's name, or a write.
+abbrev pub NamesFile : PlanAct → Type 0
+NamesFile (act.Call call) = ⊥
+NamesFile act.Wait = ⊥
+NamesFile a = Unit {0}
+
 abbrev pub step_of : PlanAct → Step
 step_of act.Wait = step.Wait
 step_of (act.Call (call.Fork c)) = step.Fork

@@ -3,7 +3,7 @@ ghost use Rattle.std.specs.Prelude.{◌≡◌, true, [], ◌∷◌, OnOk, OnErr}
 ghost use denote.Param.Send.{IsSync, IsSend};
 ghost use Rattle.block_runs.specs.Callers.{IsCaller, SeesMore};
 ghost use Rattle.block_runs.specs.Conditions.{MayMakeLine};
-ghost use Rattle.block_runs.specs.Lines.{IsCallLine};
+ghost use Rattle.block_runs.specs.Lines.{IsCallLine, NamesFile};
 ghost use Rattle.block_runs.specs.Rows.{IsBlockReady, IsOnWay, IsChildBorn, IsStretch, BothEnd, BlockEnds, MakesLine};
 
 use crate::calls::Calls;
@@ -193,6 +193,7 @@ fn run_both<R: Threads + Wait + Sync, D: Disk + Send, K: Calls<D> + Sync>(
 }
 
 /// Makes a line that is neither a wait nor a fork. The error is want of memory.
+#[inline(always)]
 fn make_line<R: Wait, D: Disk, K: Calls<D>>(
     rt: &R,
     kernel: &K,
@@ -212,6 +213,28 @@ fn make_line<R: Wait, D: Disk, K: Calls<D>>(
             kernel.call(rt, caller, call)?;
             Ok(())
         }
+        _ => make_named(rt, kernel, caller, line),
+    }
+}
+
+// Makes a line that names a file. Not inline, so that another line has no room for the parts of a write.
+#[inline(never)]
+fn make_named<R: Wait, D: Disk, K: Calls<D>>(
+    rt: &R,
+    kernel: &K,
+    caller: &mut Caller<D>,
+    line: &PlanLine,
+) -> Result<(), AllocError>
+    requires caller { IsCaller (K.kernel kernel.now) caller.old }
+    requires line { IsCallLine line.now.act }
+    requires named { NamesFile line.now.act }
+    requires may { MayMakeLine (K.kernel kernel.now) caller.old line.now }
+    // It is between its calls again, and made just the line's entries; or none.
+    ensures caller { IsCaller (K.kernel kernel.now) caller.new }
+    ensures made { OnOk result (MakesLine caller.old caller.new line.now) }
+    ensures err { OnErr result (SeesMore caller.old caller.new []) }
+{
+    match &line.act {
         PlanAct::Named { call, .. } => make_parts(rt, kernel, caller, call, &[]),
         PlanAct::Write {
             file,
@@ -222,6 +245,6 @@ fn make_line<R: Wait, D: Disk, K: Calls<D>>(
             let (first, behind) = cut_write(*file, *offset, bytes.bytes());
             make_parts(rt, kernel, caller, &first, behind)
         }
-        PlanAct::Wait => unreachable!(),
+        PlanAct::Call(_) | PlanAct::Wait => unreachable!(),
     }
 }

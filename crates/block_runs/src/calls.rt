@@ -74,6 +74,7 @@ pub trait Calls<D: Disk> {
 impl<D: Disk> Calls<D> for VmKernel<D> {
     ghost kernel = { λ k. k };
 
+    #[inline(always)]
     fn call<R: Wait>(
         &self,
         rt: &R,

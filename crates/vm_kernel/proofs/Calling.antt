@@ -1,6 +1,6 @@
 -- A call that takes several turns.
 use Rattle.std.proofs.Common.{◌≡◌, ℕ, Bool, true, false, List, ◌++◌, refl, ap, sym, ◌∙◌, subst, arith, append_assoc, le_refl}
-use Rattle.std.specs.Prelude.{IsTrue, ◌||◌}
+use Rattle.std.specs.Prelude.{IfOk, IsTrue, OnErr, Result, Ok, Err, ◌||◌}
 use Rattle.std.specs.List.{list_any}
 use Rattle.std.proofs.lemmas.List.Folds.{list_any-append}
 use mathlib.Core.List.{IsPrefix}
@@ -68,3 +68,12 @@ module _ (c m d : CallerSeen) (call : Call) (first : CallerGoesOn c m) (then' : 
   refused-since has =
       subst (λ (x : CallerSeen). LacksMemory c call x) (sym at-last)
       (refused-later c.seat m.seat d.seat c.process call goes-mid own (subst (λ (x : CallerSeen). LacksMemory x call (caller_at d.seat c.process)) at-mid (subst (λ (x : CallerSeen). LacksMemory m call x) at-last has)))
+
+  -- of a call to its end
+  pub call-done-since : {E : Type 0} (r : Result Reply E) → IfOk r (λ (x : Reply). IsCallDone m call d x) → IfOk r (λ (x : Reply). IsCallDone c call d x)
+  call-done-since (Ok x) has = done-since x has
+  call-done-since (Err e) has = has
+
+  pub call-lacks-since : {E : Type 0} (r : Result Reply E) → OnErr r (LacksMemory m call d) → OnErr r (LacksMemory c call d)
+  call-lacks-since (Ok x) has = has
+  call-lacks-since (Err e) has = refused-since has

@@ -6,6 +6,8 @@ use Rattle.std.proofs.lemmas.List.Elements.{filter-append, All-nil, All-cons}
 use mathlib.Core.List.{IsPrefix}
 use Rattle.kernel_lock.specs.Seats.{IsEntered, HasTried, after_enter, after_leave, after_refusal, part_of, entries_by, empties}
 use Rattle.kernel_lock.proofs.Begun.{prefix_more, prefix_self}
+use Rattle.vm_core.specs.fault_entry.declared.answers.Answer.{Answer}
+use Rattle.vm_core.specs.fault_entry.declared.answers.Answer.TheVariants as answer
 use Rattle.vm_core.specs.flat_model.History.{is_io}
 use Rattle.vm_core.specs.page_store.declared.plan.Hold.{Hold}
 use Rattle.vm_core.specs.page_store.declared.plan.Hold.TheVariants as hold
@@ -18,8 +20,8 @@ use Rattle.vm_core.specs.vm_world.State.{KernelState, Sent, seat_of}
 use Rattle.vm_kernel.specs.Callers.{SeatSeen, CallerSeen, IsIdle}
 use Rattle.vm_kernel.specs.Notes.{InHand}
 use Rattle.vm_kernel.specs.Since.{seat_of_entry, history_of, IsSinceOpening}
-use Rattle.vm_kernel.specs.Steps.{IsNoteFor}
-use Rattle.vm_kernel.specs.Turns.{CallerGoesOn, IsTurn, IsFirstHalf, IsCallDone, LacksMemory, HasMet, HasCauseFor, ShowsError, IsForCall, caller_at, turn_of_try, turn_of_end, why_of}
+use Rattle.vm_kernel.specs.Steps.{IsNoteFor, tried_of}
+use Rattle.vm_kernel.specs.Turns.{CallerGoesOn, IsQuick, IsTurn, IsFirstHalf, IsCallDone, LacksMemory, HasMet, HasCauseFor, ShowsError, IsForCall, caller_at, quick_of, turn_of_try, turn_of_end, why_of}
 use Rattle.vm_kernel.specs.Visits.{GoesOut, LeavesTry, LeavesEnd, LeavesHand, Visit}
 use Rattle.vm_kernel.specs.declared.sent.SentFlight.{SentFlight}
 use Rattle.vm_kernel.specs.declared.turn.Turn.{Turn}
@@ -175,6 +177,18 @@ module _ (opening : KernelState) (n : ℕ) (c b d : SeatSeen) (s : KernelState) 
   tried-comes (Err e) (t, out, (same, takes, none)) =
       let visit = none-added t same out in
       record { state = t; added = []; visit = visit; half = record { takes = takes; none = visit.own ∙ append-nil c.own; free = visit.noted ∙ none } }
+
+-- of a load or a store
+for-note : (p : ℕ) (call : Call) (o : Option Sent) → IsNoteFor p call o → IsForCall p call o
+for-note p call None for' = absurd for'
+for-note p call (Some note) for' = for'
+
+pub quick-comes : (c : CallerSeen) (call : Call) (d : CallerSeen) (a : Answer) → IsFirstHalf {E = Unit {0}} c call d (turn_of_try (Ok (tried_of a))) → IsQuick c call d (quick_of a)
+quick-comes c call d (answer.Word w) half = half
+quick-comes c call d answer.Stored half = half
+quick-comes c call d (answer.Signal s) half = half
+quick-comes c call d (answer.Need plan) half = (half.0, for-note c.process call d.seat.note half.1)
+quick-comes c call d (answer.Busy h) half = (half.0, half.1)
 
 -- THE END OF A TRANSFER
 pub record Ends (c : SeatSeen) (p : ℕ) (call : Call) (d : SeatSeen) (result : Option Reply) : Type 0 where

@@ -17,7 +17,11 @@ use Rattle.vm_core.specs.vm_world.ServingLaws.{done_entry}
 use Rattle.vm_core.specs.vm_world.State.{KernelState, Sent}
 use Rattle.vm_core.specs.vm_world.Wants.{MayHold, seat_in}
 use Rattle.vm_kernel.specs.Callers.{KernelSeen, SeatSeen, CallerSeen, ShowsOwn}
+use Rattle.vm_core.specs.fault_entry.declared.answers.Answer.{Answer}
+use Rattle.vm_core.specs.fault_entry.declared.answers.Answer.TheVariants as answer
 use Rattle.vm_kernel.specs.Steps.{IsNoteFor}
+use Rattle.vm_kernel.specs.declared.turn.Quick.{Quick}
+use Rattle.vm_kernel.specs.declared.turn.Quick.TheVariants as quick
 use Rattle.vm_kernel.specs.declared.steps.Tried.{Tried}
 use Rattle.vm_kernel.specs.declared.steps.Tried.TheVariants as tried
 use Rattle.vm_kernel.specs.declared.turn.Turn.{Turn}
@@ -146,3 +150,17 @@ turn_of_try (Err e) = Err e
 abbrev pub turn_of_end : Option Reply → Turn
 turn_of_end (Some r) = Done r
 turn_of_end None = Again Moved
+
+-- Inside: what one try of a load or a store comes to: it is done, or there is no entry yet.
+abbrev pub quick_of : Answer → Quick
+quick_of (answer.Word word) = quick.Word word
+quick_of answer.Stored = quick.Stored
+quick_of (answer.Signal signal) = quick.Signal signal
+quick_of (answer.Need plan) = quick.Later
+quick_of (answer.Busy hold) = quick.Later
+
+abbrev pub IsQuick : CallerSeen → Call → CallerSeen → Quick → Type 0
+IsQuick c call d (quick.Word word) = IsCallDone c call d (reply.Word word)
+IsQuick c call d quick.Stored = IsCallDone c call d reply.Done
+IsQuick c call d (quick.Signal signal) = IsCallDone c call d (reply.Signal signal)
+IsQuick c call d quick.Later = (d.seat.own ≡ c.seat.own) × IsForCall c.process call d.seat.note

@@ -5,14 +5,15 @@ ghost use Rattle.vm_core.specs.vm_types.WellFormed.{IsWellFormed};
 ghost use Rattle.vm_core.specs.vm_world.Events.{IsEvent, CanTry};
 ghost use Rattle.vm_core.specs.vm_world.State.{Sent};
 ghost use Rattle.vm_kernel.specs.Notes.{note_of_held, AreUnperformed, InHand};
-ghost use Rattle.vm_kernel.specs.Steps.{TriesCall, EndsFlight, IsForNone};
+ghost use Rattle.vm_core.specs.fault_entry.Accesses.{IsAccess};
+ghost use Rattle.vm_kernel.specs.Steps.{TriesAccess, TriesCall, EndsFlight, IsForNone};
 
 use crate::sent::{SeatNote, SentFlight};
 use crate::steps::{self, Tried};
 use kernel_lock::guarded::Guarded;
 use std::alloc::AllocError;
 use std::marker::Model;
-use vm_core::{Call, Disk, Entry, Reply, VmState};
+use vm_core::{Answer, Call, Disk, Entry, Reply, VmState};
 
 /// The state in a box. Contracts see it as the state.
 #[derive(Drop)]
@@ -81,6 +82,28 @@ impl<D: Disk> BoxedState<D> {
         ensures ready { AreUnperformed sent.new }
     {
         steps::try_and_begin(&mut self.state, seat, process, call, sent)
+    }
+
+    /// Tries a load or a store, and begins the transfer that it needs.
+    #[inline(always)]
+    pub(crate) fn access_and_begin(
+        &mut self,
+        seat: u32,
+        process: u32,
+        call: &Call,
+        sent: &mut Option<SentFlight<D>>,
+    ) -> Answer
+        requires access { IsAccess call.now }
+        requires fits { FitsAt self.old seat None }
+        requires may { CanTry self.old seat process call.now }
+        requires none { sent.old ≡ None }
+        // One event, as of any call that is tried.
+        ensures event { IsEvent seat self.old None self.new (note_of_held sent.new) }
+        ensures tries { TriesAccess self.old self.new process call.now (note_of_held sent.new)
+            result }
+        ensures ready { AreUnperformed sent.new }
+    {
+        steps::access_and_begin(&mut self.state, seat, process, call, sent)
     }
 
     /// The flight of a seat ends.

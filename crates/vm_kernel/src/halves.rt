@@ -1,16 +1,17 @@
 //! The two halves of a turn: a try, with the transfer that it needs, and the end of that transfer.
 ghost use Rattle.std.specs.Prelude.{◌≡◌, ◌<◌, ◌≤◌, ◌+◌, ℕ, Some, None, length, IfOk, OnErr};
 ghost use Rattle.kernel_lock.specs.Seats.{IsSeatOf};
+ghost use Rattle.vm_core.specs.fault_entry.Accesses.{IsAccess};
 ghost use Rattle.vm_core.specs.vm_types.declared.call.Call as calls;
 ghost use Rattle.vm_kernel.specs.Callers.{IsIdle};
 ghost use Rattle.vm_kernel.specs.Steps.{IsNoteFor, IsForNone};
-ghost use Rattle.vm_kernel.specs.Turns.{MayCall, CallerGoesOn, IsTurn, IsFirstHalf, LacksMemory, caller_at};
+ghost use Rattle.vm_kernel.specs.Turns.{MayCall, CallerGoesOn, IsQuick, IsTurn, IsFirstHalf, LacksMemory, caller_at};
 
 use crate::boxed::BoxedState;
 use crate::sent::SentFlight;
 use crate::steps::perform;
-use crate::turn::{Turn, Why, turn_of_end, turn_of_try};
-use crate::visits::{end_and_leave, hand_and_leave, try_and_leave};
+use crate::turn::{Quick, Turn, Why, quick_of, turn_of_end, turn_of_try};
+use crate::visits::{access_and_leave, end_and_leave, hand_and_leave, try_and_leave};
 use kernel_lock::lock::KernelLock;
 use kernel_lock::seat::Seat;
 use std::alloc::AllocError;
@@ -42,6 +43,35 @@ fn first_at<D: Disk>(
     let tried = try_and_leave(lock, seat, state, process, call, sent);
     perform(sent);
     turn_of_try(tried)
+}
+
+/// One try of a load or a store, with nothing in hand, and the transfer that it needs, which is in hand then.
+#[inline(always)]
+pub(crate) fn access_at<D: Disk>(
+    lock: &KernelLock<BoxedState<D>>,
+    seat: &mut Seat<BoxedState<D>>,
+    process: u32,
+    sent: &mut Option<SentFlight<D>>,
+    call: &Call,
+) -> Quick
+    requires access { IsAccess call.now }
+    requires seat { IsSeatOf lock.now seat.old }
+    requires idle { IsIdle seat.old process sent.old }
+    requires may { MayCall lock.now (caller_at seat.old process) call.now }
+    requires none { sent.old ≡ None }
+    // The caller goes on, and what its try comes to.
+    ensures seat { IsSeatOf lock.now seat.new }
+    ensures idle { IsIdle seat.new process sent.new }
+    ensures goes { CallerGoesOn (caller_at seat.old process) (caller_at seat.new process) }
+    ensures quick { IsQuick (caller_at seat.old process) call.now
+        (caller_at seat.new process) result }
+{
+    let Some(state) = lock.try_enter(seat) else {
+        return Quick::Later;
+    };
+    let answer = access_and_leave(lock, seat, state, process, call, sent);
+    perform(sent);
+    quick_of(answer)
 }
 
 /// The second half, with a transfer in hand: it ends.

@@ -2,12 +2,12 @@
 ghost use Rattle.std.specs.Prelude.{◌≡◌, ◌<◌, ◌≤◌, ◌+◌, None, IfOk, OnErr};
 ghost use mathlib.Core.List.{IsPrefix};
 ghost use Rattle.vm_kernel.specs.Callers.{IsCallerOf};
-ghost use Rattle.vm_kernel.specs.Turns.{MayCall, CallerGoesOn, IsTurn, IsCallDone, LacksMemory, HasSeenMore};
+ghost use Rattle.vm_kernel.specs.Turns.{MayCall, CallerGoesOn, IsQuick, IsTurn, IsCallDone, LacksMemory, HasSeenMore};
 
 use crate::boxed::BoxedState;
 use crate::caller::Caller;
-use crate::halves::{move_at, turn_at};
-use crate::turn::{Turn, Why};
+use crate::halves::{access_at, move_at, turn_at};
+use crate::turn::{Quick, Turn, Why};
 use kernel_lock::lock::KernelLock;
 use std::alloc::AllocError;
 use std::marker::Model;
@@ -85,8 +85,68 @@ impl<D: Disk> VmKernel<D> {
         Ok(turn)
     }
 
-    /// Makes a call to its end: turns until there is a reply.
+    /// Makes a call to its end: turns until there is a reply. A load or a store is tried once with an answer of few bytes first.
+    #[inline(always)]
     pub fn call<R: Wait>(
+        &self,
+        rt: &R,
+        caller: &mut Caller<D>,
+        call: &Call,
+    ) -> Result<Reply, AllocError>
+        requires caller { IsCallerOf self.now caller.old }
+        requires may { MayCall self.now caller.old call.now }
+        // The caller goes on. Its call is done by exactly one entry more, or wants memory.
+        ensures caller { IsCallerOf self.now caller.new }
+        ensures goes { CallerGoesOn caller.old caller.new }
+        ensures done { IfOk result (λ reply. IsCallDone caller.old call.now caller.new reply) }
+        ensures err { OnErr result (LacksMemory caller.old call.now caller.new) }
+    {
+        match self.access(caller, call) {
+            Quick::Word(word) => Ok(Reply::Word(word)),
+            Quick::Stored => Ok(Reply::Done),
+            Quick::Signal(signal) => Ok(Reply::Signal(signal)),
+            Quick::Later => self.call_by_turns(rt, caller, call),
+        }
+    }
+
+    // One try, where the call is a load or a store and nothing is in hand.
+    #[inline(always)]
+    fn access(&self, caller: &mut Caller<D>, call: &Call) -> Quick
+        requires caller { IsCallerOf self.now caller.old }
+        requires may { MayCall self.now caller.old call.now }
+        ensures caller { IsCallerOf self.now caller.new }
+        ensures goes { CallerGoesOn caller.old caller.new }
+        ensures quick { IsQuick caller.old call.now caller.new result }
+    {
+        if let Call::Load { .. } | Call::Store { .. } = *call {
+            if caller.sent.is_none() {
+                return access_at(
+                    &self.lock,
+                    &mut caller.seat,
+                    caller.process,
+                    &mut caller.sent,
+                    call,
+                );
+            }
+        }
+        self.untried(caller, call)
+    }
+
+    // A call that wasn't tried has no reply yet, and its caller is as it was.
+    #[inline(always)]
+    fn untried(&self, caller: &Caller<D>, call: &Call) -> Quick
+        requires may { MayCall self.now caller.now call.now }
+        ensures goes { CallerGoesOn caller.now caller.now }
+        ensures quick { IsQuick caller.now call.now caller.now result }
+    {
+        caller.own_law();
+        let _ = call;
+        Quick::Later
+    }
+
+    // Turns until there is a reply. Not inline, so that a hit's code has no room for its values.
+    #[inline(never)]
+    fn call_by_turns<R: Wait>(
         &self,
         rt: &R,
         caller: &mut Caller<D>,

@@ -6,11 +6,12 @@ ghost use Rattle.vm_core.specs.vm_types.WellFormed.{IsWellFormed};
 ghost use Rattle.vm_core.specs.vm_world.Events.{IsEvent, CanTry};
 ghost use Rattle.vm_core.specs.vm_world.State.{Sent};
 ghost use Rattle.vm_kernel.specs.Notes.{note_of_held, IsUnperformed, AreUnperformed, InHand};
-ghost use Rattle.vm_kernel.specs.Steps.{TriesCall, EndsFlight, IsForNone};
+ghost use Rattle.vm_core.specs.fault_entry.Accesses.{IsAccess};
+ghost use Rattle.vm_kernel.specs.Steps.{TriesAccess, TriesCall, EndsFlight, IsForNone, IsNoteFor};
 
 use crate::sent::SentFlight;
 use std::alloc::AllocError;
-use vm_core::{Attempt, Call, Disk, Hold, Plan, Reply, VmState};
+use vm_core::{Answer, Attempt, Call, Disk, Hold, Plan, Reply, VmState};
 
 /// What a try comes to.
 #[derive(Clone, Copy, PartialEq, Eq, Debug)]
@@ -65,6 +66,57 @@ pub(crate) fn try_and_begin<D: Disk>(
         }
         Attempt::Busy(hold) => Ok(Tried::Busy(hold)),
     }
+}
+
+// Begins the transfer that a load or a store needs. Not inline, so that a hit's code has no room for a flight.
+#[inline(never)]
+fn send_for<D: Disk>(
+    state: &mut VmState<D>,
+    seat: u32,
+    process: u32,
+    plan: Plan,
+    call: &Call,
+    sent: &mut Option<SentFlight<D>>,
+)
+    requires fits { FitsAt state.old seat None }
+    requires kept { state.old.plan ≡ Some (record {
+      seat = seat;
+      plan = plan;
+      of = Some (process, call.now);
+    }) }
+    requires none { sent.old ≡ None }
+    ensures event { IsEvent seat state.old None state.new (note_of_held sent.new) }
+    ensures ready { AreUnperformed sent.new }
+    ensures for_call { IsNoteFor process call.now (note_of_held sent.new) }
+    ensures same { state.new.history ≡ state.old.history }
+{
+    *sent = Some(send(state, seat, plan, Some((process, *call))));
+}
+
+/// Tries a load or a store, and begins the transfer that it needs.
+#[inline(always)]
+pub(crate) fn access_and_begin<D: Disk>(
+    state: &mut VmState<D>,
+    seat: u32,
+    process: u32,
+    call: &Call,
+    sent: &mut Option<SentFlight<D>>,
+) -> Answer
+    requires access { IsAccess call.now }
+    requires fits { FitsAt state.old seat None }
+    requires may { CanTry state.old seat process call.now }
+    requires none { sent.old ≡ None }
+    // One event, as of any call that is tried.
+    ensures event { IsEvent seat state.old None state.new (note_of_held sent.new) }
+    ensures tries { TriesAccess state.old state.new process call.now (note_of_held sent.new)
+        result }
+    ensures ready { AreUnperformed sent.new }
+{
+    let answer = state.try_access(seat, process, call);
+    if let Answer::Need(plan) = answer {
+        send_for(state, seat, process, plan, call, sent);
+    }
+    answer
 }
 
 fn lent(of: &Option<(u32, Call)>) -> Option<(u32, &Call)>

@@ -6,7 +6,8 @@ ghost use Rattle.vm_core.specs.vm_types.WellFormed.{IsWellFormed};
 ghost use Rattle.vm_core.specs.vm_world.Events.{CanTry};
 ghost use Rattle.vm_core.specs.vm_world.State.{Sent};
 ghost use Rattle.vm_kernel.specs.Notes.{note_of_held, AreUnperformed, InHand};
-ghost use Rattle.vm_kernel.specs.Visits.{LeavesTry, LeavesEnd, LeavesHand};
+ghost use Rattle.vm_kernel.specs.Visits.{LeavesAccess, LeavesTry, LeavesEnd, LeavesHand};
+ghost use Rattle.vm_core.specs.fault_entry.Accesses.{IsAccess};
 ghost use Rattle.vm_kernel.specs.Steps.{IsForNone};
 
 use crate::boxed::BoxedState;
@@ -15,7 +16,7 @@ use crate::steps::Tried;
 use kernel_lock::lock::KernelLock;
 use kernel_lock::seat::Seat;
 use std::alloc::AllocError;
-use vm_core::{Call, Disk, Reply};
+use vm_core::{Answer, Call, Disk, Reply};
 
 // A call that is done may let go on who waits for it.
 fn tell_of<D: Disk>(lock: &KernelLock<BoxedState<D>>, tried: &Result<Tried, AllocError>) {
@@ -51,6 +52,35 @@ pub(crate) fn try_and_leave<D: Disk>(
     lock.leave(seat, state, sent);
     tell_of(lock, &tried);
     tried
+}
+
+/// Tries a load or a store, begins the transfer that it needs, and leaves. Nobody waits for what it does, so nobody is told.
+#[inline(always)]
+pub(crate) fn access_and_leave<D: Disk>(
+    lock: &KernelLock<BoxedState<D>>,
+    seat: &mut Seat<BoxedState<D>>,
+    state: BoxedState<D>,
+    process: u32,
+    call: &Call,
+    sent: &mut Option<SentFlight<D>>,
+) -> Answer
+    requires access { IsAccess call.now }
+    requires seat { IsSeatOf lock.now seat.old }
+    requires inside { (seat.old.inside ≡ true) × (seat.old.state ≡ Some state)
+        × (seat.old.note ≡ None) }
+    requires fits { FitsAt state seat.old.number None }
+    requires may { CanTry state seat.old.number process call.now }
+    requires none { sent.old ≡ None }
+    // The seat goes out of one event, with what is in hand then as its note.
+    ensures seat { IsSeatOf lock.now seat.new }
+    ensures leaves { LeavesAccess seat.old state process call.now seat.new
+        (note_of_held sent.new) result }
+    ensures ready { AreUnperformed sent.new }
+{
+    let mut state = state;
+    let answer = state.access_and_begin(seat.number(), process, call, sent);
+    lock.leave(seat, state, sent);
+    answer
 }
 
 /// The transfer that a seat has outside ends, and the seat leaves.

@@ -9,7 +9,6 @@ use Rattle.volume_files.specs.vm_types.Parts.{next_part, part_bytes, HasRest}
 use Rattle.volume_files.specs.vm_types.WellFormed.{IsWellFormed}
 use Rattle.volume_files.specs.flat_model.Told.{entries_of}
 use Rattle.volume_files.specs.vm_script.declared.plan.PlanAct.{PlanAct}
-use Rattle.volume_files.specs.vm_script.declared.plan.PlanAct.TheVariants as act
 use Rattle.volume_files.specs.vm_script.declared.plan.PlanLine.{PlanLine}
 use Rattle.volume_files.specs.vm_script.Counts.{parts}
 use Rattle.volume_files.specs.vm_script.Told.{Spell}
@@ -30,7 +29,7 @@ use Rattle.block_runs.proofs.Lists.{prefix_refl}
 use Rattle.block_runs.proofs.Parting.{PartsMade, part_may, parts_end, parts_next, parts_start}
 use Rattle.block_runs.proofs.Runs.{runs_nothing}
 use Rattle.block_runs.proofs.Stretching.{GoesOn, at_line, go_line, go_start}
-use Rattle.vm_run.specs.Lines.{AreOfOne, HasOneMore, alone_caller, alone_kernel, NamesFile}
+use Rattle.vm_run.specs.Lines.{AreOfOne, HasOneMore, alone_caller, alone_kernel}
 use Rattle.vm_run.proofs.GoingOn.{may-now}
 use Rattle.vm_run.proofs.ToldLines.{of-one}
 use Rattle.vm_run.proofs.Trips.{then-too}
@@ -202,9 +201,3 @@ lines-all s t lines left so-far none =
     let m = alone-front s t lines left so-far in
     let whole : m.made ≡ own_of 1 lines = sym (append-nil m.made) ∙ (ap (λ (ls : List PlanLine). m.made ++ own_of 1 ls) (sym none) ∙ m.front) in
     subst (λ (ls : List PlanLine). Spell ls (entries_of t.history 1)) whole m.own
-
--- A line that makes calls, and isn't one call by itself, names a file.
-pub names-file : (a : PlanAct) → IsCallLine a → ((call : Call) → a ≢ act.Call call) → NamesFile a
-names-file (act.Call call) line other = other call refl
-names-file act.Wait line other = line
-names-file a line other = tt

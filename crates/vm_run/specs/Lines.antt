@@ -20,12 +20,6 @@ is_plain_act (act.Call (call.Fork child)) = false
 is_plain_act act.Wait = false
 is_plain_act a = true
 
--- A line that names a file: a call with its file's name, or a write.
-abbrev pub NamesFile : PlanAct → Type 0
-NamesFile (act.Call call) = ⊥
-NamesFile act.Wait = ⊥
-NamesFile a = Unit {0}
-
 -- One block at most, which neither forks nor waits.
 abbrev pub is_alone : PlanSeen → Bool
 is_alone plan = nat_le (length plan.parents) 1 && list_all (λ l. is_plain_act l.act) plan.lines

@@ -7,10 +7,10 @@ ghost use Rattle.volume_files.specs.vm_script.Told.{Spell};
 ghost use Rattle.vm_core.specs.Finish.{FitsStill};
 ghost use Rattle.vm_core.specs.vm_world.Events.{IsEvent};
 ghost use Rattle.block_runs.specs.Conditions.{MayMakeLine};
-ghost use Rattle.block_runs.specs.Lines.{IsCallLine, own_of};
+ghost use Rattle.block_runs.specs.Lines.{IsCallLine, NamesFile, own_of};
 ghost use Rattle.block_runs.specs.Parts.{MakesParts, MayMakeParts};
 ghost use Rattle.block_runs.specs.Rows.{IsOnWay, MakesLine};
-ghost use Rattle.vm_run.specs.Lines.{alone_caller, alone_kernel, AreOfOne, NamesFile};
+ghost use Rattle.vm_run.specs.Lines.{alone_caller, alone_kernel, AreOfOne};
 
 use crate::making::make_call;
 use block_runs::{bytes_in, cut_write};

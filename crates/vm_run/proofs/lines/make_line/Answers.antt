@@ -1,8 +1,8 @@
 use Rattle.std.proofs.Common.{◌≡◌, sym, subst}
 use Rattle.block_runs.proofs.KernelCalls.{on_err}
-use Rattle.block_runs.proofs.LineCalls.{plain_made, plain_may}
+use Rattle.block_runs.proofs.LineCalls.{names_file, plain_made, plain_may}
 use Rattle.vm_run.specs.Lines.{AreOfOne, alone_caller, alone_kernel}
-use Rattle.vm_run.proofs.Alone.{alone-is, alone-made, names-file, of-one-more}
+use Rattle.vm_run.proofs.Alone.{alone-is, alone-made, of-one-more}
 use Rattle.vm_run.proofs.lines.make_line.Goals as goal
 
 -- A line that names no file
@@ -30,4 +30,4 @@ returns-in_ok-make_call-in-Call-clause-made g c =
 
 -- Another
 pub make_named-requires-clause-named : goal.make_named-requires-clause-named
-make_named-requires-clause-named g c = names-file c.args.line.now.act c.requires.line c.in_default.not-Call
+make_named-requires-clause-named g c = names_file c.args.line.now.act c.requires.line c.in_default.not-Call

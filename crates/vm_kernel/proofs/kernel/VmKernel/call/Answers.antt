@@ -1,15 +1,22 @@
-use Rattle.std.proofs.Common.{refl, subst}
-use Rattle.vm_kernel.specs.Turns.{IsTurn}
-use Rattle.vm_kernel.proofs.Calling.{goes-not, may-still, done-since}
+use Rattle.std.proofs.Common.{subst}
+use Rattle.vm_kernel.specs.Turns.{IsQuick}
+use Rattle.vm_kernel.proofs.Calling.{call-done-since, call-lacks-since, goes-both, may-still}
 use Rattle.vm_kernel.proofs.kernel.VmKernel.call.Goals as goal
 
-pub loop-init : goal.loop-init
-loop-init g c = (c.requires.caller, goes-not c.args.caller.now c.own_law.ensures.own, refl, c.requires.may.hand)
+pub call_by_turns-requires-clause-may : goal.call_by_turns-requires-clause-may
+call_by_turns-requires-clause-may g c =
+    let later = subst (IsQuick c.args.caller.now c.args.call.now c.access.new.caller) c.in-Later.is c.access.ensures.quick in
+    may-still c.args.self.now c.args.caller.now c.access.new.caller c.args.call.now c.requires.may c.access.ensures.goes later.0 later.1
 
-pub turn_and_rest-requires-clause-may : goal.turn_and_rest-requires-clause-may
-turn_and_rest-requires-clause-may g c = may-still c.args.self.now c.args.caller.now c.loop.caller c.args.call.now c.requires.may c.loop.invariant.1 c.loop.invariant.2 c.loop.invariant.3
+pub returns-in-Later-clause-goes : goal.returns-in-Later-clause-goes
+returns-in-Later-clause-goes g c = goes-both c.args.caller.now c.access.new.caller c.call_by_turns.new.caller c.access.ensures.goes c.call_by_turns.ensures.goes
 
-pub returns-in-Done-clause-done : goal.returns-in-Done-clause-done
-returns-in-Done-clause-done g c =
-    done-since c.args.caller.now c.loop.caller c.turn_and_rest.new.caller c.args.call.now c.loop.invariant.1 c.turn_and_rest.ensures.goes c.loop.invariant.2 c.in-Done.reply
-    (subst (IsTurn c.loop.caller c.args.call.now c.turn_and_rest.new.caller) c.in-Done.is c.in_ok-reply.ensures.turn)
+pub returns-in-Later-clause-done : goal.returns-in-Later-clause-done
+returns-in-Later-clause-done g c =
+    let later = subst (IsQuick c.args.caller.now c.args.call.now c.access.new.caller) c.in-Later.is c.access.ensures.quick in
+    call-done-since c.args.caller.now c.access.new.caller c.call_by_turns.new.caller c.args.call.now c.access.ensures.goes c.call_by_turns.ensures.goes later.0 c.call_by_turns.result c.call_by_turns.ensures.done
+
+pub returns-in-Later-clause-err : goal.returns-in-Later-clause-err
+returns-in-Later-clause-err g c =
+    let later = subst (IsQuick c.args.caller.now c.args.call.now c.access.new.caller) c.in-Later.is c.access.ensures.quick in
+    call-lacks-since c.args.caller.now c.access.new.caller c.call_by_turns.new.caller c.args.call.now c.access.ensures.goes c.call_by_turns.ensures.goes later.0 c.call_by_turns.result c.call_by_turns.ensures.err

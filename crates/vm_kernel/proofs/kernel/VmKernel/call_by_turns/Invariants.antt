@@ -1,7 +1,7 @@
 use Rattle.std.proofs.Common.{◌≡◌}
 use Rattle.vm_kernel.specs.Callers.{IsCallerOf}
 use Rattle.vm_kernel.specs.Turns.{CallerGoesOn, IsForCall}
-use Rattle.vm_kernel.proofs.kernel.VmKernel.call.Given as goal
+use Rattle.vm_kernel.proofs.kernel.VmKernel.call_by_turns.Given as goal
 
 abbrev pub invariant-loop : goal.invariant-loop
 invariant-loop g l =
