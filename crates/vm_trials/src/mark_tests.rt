@@ -249,7 +249,8 @@ fn reaches_all(entries: &[Entry], page: u32, mark: Mark) -> bool
     true
 }
 
-/// What is looked at: how many faults the disk had counted as the kernel was closed, and the first page with a mark that isn't true.
+/// What is looked at: how many faults the disk had counted as the kernel was closed, and the first of the five pages that the acts are about with a mark that isn't
+/// true.
 #[derive(Clone, Copy)]
 struct Looked {
     faults: u64,
@@ -264,7 +265,7 @@ fn wrong_mark(
     let Some((0, disk)) = finished.disks.first() else {
         return Err(Fail::new("disk 0 came back"));
     };
-    for page in 0..8u32 {
+    for page in 0..5u32 {
         let (Some(mark), Some(block)) = (
             marks[page as usize],
             disk.content().get(1 + page as usize),
@@ -302,7 +303,7 @@ fn made_and_looked_at(alloc: Global, fails: &[u64]) -> Result<Looked, Fail> {
 
 /// A call that fails, and from a later one on each.
 fn failing(alloc: Global, once: u64, dead: u64) -> Result<Vec<u64>, AllocError>
-    requires { dead < 100 }
+    requires { dead ≤ 60 }
 {
     let mut fails = Vec::new(alloc);
     fails.push(once)?;
@@ -312,17 +313,23 @@ fn failing(alloc: Global, once: u64, dead: u64) -> Result<Vec<u64>, AllocError>
     Ok(fails)
 }
 
+// Both calls that fail were made before the close, and each mark is true.
+fn look_for_failures(alloc: Global, once: u64, dead: u64) -> Result<(), Fail> {
+    let looked = made_and_looked_at(alloc, &failing(alloc, once, dead.min(60))?)?;
+    if looked.faults < 2 {
+        return Err(Fail::new(format_args!("{once}, {dead}: the disk still serves")));
+    }
+    if let Some((page, mark)) = looked.wrong {
+        return Err(Fail::new(format_args!("{once}, {dead}: page {page} isn't {mark:?}")));
+    }
+    Ok(())
+}
+
 #[test]
 fn marks_are_true_of_their_blocks(rt: HostRuntime) -> Result<(), Fail> {
-    for dead in 2..16u64 {
-        for once in 1..dead {
-            let looked = made_and_looked_at(rt.alloc(), &failing(rt.alloc(), once, dead)?)?;
-            if looked.faults < 2 {
-                return Err(Fail::new(format_args!("{once}, {dead}: the disk still serves")));
-            }
-            if let Some((page, mark)) = looked.wrong {
-                return Err(Fail::new(format_args!("{once}, {dead}: page {page} isn't {mark:?}")));
-            }
+    for dead in 3..16u64 {
+        for once in [1, dead / 2, dead - 1] {
+            look_for_failures(rt.alloc(), once, dead)?;
         }
     }
     Ok(())
