@@ -15,8 +15,8 @@ const DAEMON: &str = "--pageout\n1000";
 /// The block of a second process, behind the script.
 const SECOND: &[u8] = b"process\nload 0x2000 1\nend\n";
 
-// Faults of the grammar and of set-up that the table for one process leaves out.
-const MORE: [Broken; 4] = [
+/// Faults of the grammar and of set-up, of which some look at more than one line or at joins.
+pub(crate) const MORE: [Broken; 9] = [
     Broken {
         status: 3,
         script: b"process\nend\nswap 4\n",
@@ -36,6 +36,31 @@ const MORE: [Broken; 4] = [
         status: 4,
         script: b"disk 0 blank 8\nfile a rw 0 1 -\nfile b rw 0 7 -\nprocess\nend\n",
         text: b"setup: rule 12\n",
+    },
+    Broken {
+        status: 4,
+        script: b"disk 0 blank 8\njoin 0 stripe 0\nprocess\nend\n",
+        text: b"setup: rule 14\n",
+    },
+    Broken {
+        status: 4,
+        script: b"disk 0 blank 8\njoin 0 mirror 1\nprocess\nend\n",
+        text: b"setup: rule 14\n",
+    },
+    Broken {
+        status: 4,
+        script: b"disk 0 blank 8\ndisk 1 blank 8\ndisk 2 blank 8\njoin 0 mirror 1\njoin 2 mirror 1\nprocess\nend\n",
+        text: b"setup: rule 14\n",
+    },
+    Broken {
+        status: 4,
+        script: b"disk 0 blank 8\ndisk 1 blank 8\njoin 0 stripe 1\nfile a rw 1 1 -\nprocess\nend\n",
+        text: b"setup: rule 14\n",
+    },
+    Broken {
+        status: 4,
+        script: b"disk 0 blank 8\ndisk 1 blank 4\njoin 0 mirror 1\nprocess\nend\n",
+        text: b"setup: rule 15\n",
     },
 ];
 
@@ -160,7 +185,20 @@ const BAD: [(u32, Word); 17] = [
 ];
 
 // The same for version 1.
-const OLD_BAD: [(u32, Word); 4] = [(5, (20, 1)), (8, (84, 8)), (9, (80, 4097)), (10, (84, 2))];
+const OLD_BAD: [(u32, Word); 12] = [
+    (1, (0, 0x53554e57)),
+    (2, (8, 3)),
+    (3, (12, 9)),
+    (4, (16, 65)),
+    (5, (20, 1)),
+    (6, (64, 0x41000000)),
+    (7, (92, 2)),
+    (8, (84, 8)),
+    (9, (80, 4097)),
+    (10, (84, 2)),
+    (11, (64, 0x61000000)),
+    (12, (96, 1)),
+];
 
 // Eight blocks, the first of which has these words and then this one.
 fn volume(alloc: Global, words: &[Word], word: Word) -> Result<Vec<Block>, AllocError> {

@@ -1,4 +1,5 @@
 //! Whole runs over memory forms, with a fault in each place: what each prints, and how it ends.
+use crate::beside_tests::MORE;
 use crate::trial::{Fails, NEVER, NO_WORDS, run_trial};
 use std::alloc::Global;
 use std::sync::Wait;
@@ -486,5 +487,6 @@ fn hear(rt: &(impl Threads + Wait + Sync), alloc: Global, scripts: &[Broken]) ->
 
 #[test]
 fn what_is_wrong_with_a_script_is_told(rt: HostRuntime) -> Result<(), Fail> {
-    hear(&rt, rt.alloc(), &BROKEN)
+    hear(&rt, rt.alloc(), &BROKEN)?;
+    hear(&rt, rt.alloc(), &MORE)
 }
