@@ -26,11 +26,11 @@ use volume_files::{
     show_files, write_all, write_tables,
 };
 
-// Room for the sections of most histories: 16 bytes an entry, about what a load or a store prints. A longer text takes more as it grows.
+// Room for the sections of most histories: 20 bytes an entry, some more than a load or a store prints. A longer text takes more as it grows.
 fn room_for_text(history: &[Entry]) -> usize
     requires { length history.now < 2 ^ 32 }
 {
-    16 * history.len()
+    20 * history.len()
 }
 
 // Writes the text between the opening part of a trace and the files.

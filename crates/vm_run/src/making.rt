@@ -1,5 +1,6 @@
 //! One call of the one process, made on the kernel with the transfers that it needs.
 ghost use Rattle.std.specs.Prelude.{◌≡◌, ◌<◌, ℕ, length, Some, None, option_map, IfOk, OnErr};
+ghost use Rattle.vm_core.specs.fault_entry.Accesses.{IsAccess};
 ghost use Rattle.vm_core.specs.Finish.{FitsStill};
 ghost use Rattle.vm_core.specs.Fits.{FitsAt};
 ghost use Rattle.vm_core.specs.Flights.{EndsWith};
@@ -11,7 +12,7 @@ ghost use Rattle.vm_run.specs.Lines.{alone_caller, alone_kernel, AreOfOne, HasOn
 ghost use Rattle.vm_run.specs.Transfers.{MakesTransfer, ComesHome, sent_for};
 
 use std::alloc::AllocError;
-use vm_core::{Attempt, Flight, Plan, VmState};
+use vm_core::{Answer, Attempt, Flight, Plan, VmState};
 use volume_files::{Call, Disk, Reply};
 
 /// Makes the transfer of a flight that left for this process and call, and ends it. Inline, and the flight is taken as it leaves, so
@@ -59,13 +60,44 @@ pub fn transfer<D: Disk>(
     bring_home(state.begin(0, plan), state, of)
 }
 
-/// Makes a call of process 1 to its end, over so many frames. The error is want of memory; no entry is made then. Inline, so that
-/// a reply that nobody reads isn't moved.
+/// Makes a load or a store of process 1 to its end, over so many frames. It is answered in few bytes, and no reply is moved.
+///
+/// It ends as `make_other` does.
+#[inline(always)]
+fn make_access<D: Disk>(state: &mut VmState<D>, frames: u32, call: &Call) -> Reply
+    requires access { IsAccess call.now }
+    requires frames { length state.old.memory.world.store.frames ≡ frames }
+    requires still { FitsStill state.old }
+    requires alone { AreOfOne state.old.history }
+    requires may { MayCall (alone_kernel state.old) (alone_caller state.old state.old.history)
+        call.now }
+    // The call's entry is the one that came.
+    ensures event { IsEvent 0 state.old None state.new None }
+    ensures made { HasOneMore state.old state.new 1 call.now result }
+{
+    for _round in 0..u64::from(frames) + 3 {
+        match state.try_access(0, 1, call) {
+            Answer::Word(word) => return Reply::Word(word),
+            Answer::Stored => return Reply::Done,
+            Answer::Signal(signal) => return Reply::Signal(signal),
+            Answer::Need(plan) => {
+                if let Some(reply) = transfer(state, plan, Some((1, call))) {
+                    return reply;
+                }
+            }
+            Answer::Busy(_) => unreachable!(),
+        }
+    }
+    unreachable!()
+}
+
+/// Makes a call of process 1 to its end, over so many frames. The error is want of memory; no entry is made then. Not inline, so that
+/// a load or a store has no room for its values.
 ///
 /// It ends: each transfer leaves one modified page fewer, or one page fewer that the call wants and that isn't home. These are two
 /// pages at most, so that the call is tried so often at most as there are frames, and three times more.
-#[inline(always)]
-pub fn make_call<D: Disk>(
+#[inline(never)]
+fn make_other<D: Disk>(
     state: &mut VmState<D>,
     frames: u32,
     call: &Call,
@@ -93,4 +125,29 @@ pub fn make_call<D: Disk>(
         }
     }
     unreachable!()
+}
+
+/// Makes a call of process 1 to its end, over so many frames. The error is want of memory; no entry is made then. Inline, so that
+/// a reply that nobody reads isn't moved.
+#[inline(always)]
+pub fn make_call<D: Disk>(
+    state: &mut VmState<D>,
+    frames: u32,
+    call: &Call,
+) -> Result<Reply, AllocError>
+    requires frames { length state.old.memory.world.store.frames ≡ frames }
+    requires still { FitsStill state.old }
+    requires alone { AreOfOne state.old.history }
+    requires may { MayCall (alone_kernel state.old) (alone_caller state.old state.old.history)
+        call.now }
+    // The call's entry is the one that came.
+    ensures event { IsEvent 0 state.old None state.new None }
+    ensures made { IfOk result (λ reply. HasOneMore state.old state.new 1 call.now reply) }
+    ensures takes { OnErr result (TakesMemory call.now) }
+    ensures err { OnErr result (state.new.history ≡ state.old.history) }
+{
+    if let Call::Load { .. } | Call::Store { .. } = *call {
+        return Ok(make_access(state, frames, call));
+    }
+    make_other(state, frames, call)
 }

@@ -8,9 +8,9 @@ use Rattle.vm_run.proofs.Attempts.{failed-made, made-nothing, need-none, no-busy
 use Rattle.vm_run.proofs.GoingOn.{may-now, may-try, stays-still, still-at}
 use Rattle.vm_run.proofs.Rounds.{goes-from, no-more, one-round}
 use Rattle.vm_run.proofs.Trips.{then-too}
-use Rattle.vm_run.proofs.making.make_call.Given.{Over}
-use Rattle.vm_run.proofs.making.make_call.Goals as goal
-use Rattle.vm_run.proofs.making.make_call.Goals.{After-try_call, After-transfer}
+use Rattle.vm_run.proofs.making.make_other.Given.{Over}
+use Rattle.vm_run.proofs.making.make_other.Goals as goal
+use Rattle.vm_run.proofs.making.make_other.Goals.{After-try_call, After-transfer}
 
 pub loop-round-init : goal.loop-round-init
 loop-round-init g c = goes-from c.args.state.now c.args.call.now c.args.frames c.requires.frames
