@@ -4,7 +4,7 @@ ghost use Rattle.fault_entry.specs.vm_types.Pages.{line_rest};
 ghost use Rattle.fault_entry.specs.vm_types.declared.call.Call.TheVariants.{Exit};
 ghost use Rattle.lane_driver.specs.Lanes.{AreLaneCalls, IsLaneCall};
 
-use vm_core::Call;
+use fault_entry::Call;
 
 // How many bytes there are from an offset to the end of its line.
 fn line_rest(offset: u32) -> u32

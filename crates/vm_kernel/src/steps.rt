@@ -85,6 +85,7 @@ fn send_for<D: Disk>(
       of = Some (process, call.now);
     }) }
     requires none { sent.old ≡ None }
+    // One event, which makes no entry.
     ensures event { IsEvent seat state.old None state.new (note_of_held sent.new) }
     ensures ready { AreUnperformed sent.new }
     ensures for_call { IsNoteFor process call.now (note_of_held sent.new) }

@@ -8,11 +8,11 @@ use Rattle.vm_core.specs.vm_world.State.{KernelState, Caller, Sent}
 use Rattle.lane_driver.specs.LaneTurns.{ReturnsFlight, SendsFlight}
 
 -- what seat 0 has outside once this flight left for this process and call
-abbrev pub sent_for : FlightSeen → Option Caller → Sent
-sent_for flight of = record { note = note_of flight; of = of }
+abbrev pub sent_along : FlightSeen → Option Caller → Sent
+sent_along flight of = record { note = note_of flight; of = of }
 
 -- The flight comes back; the answer is the device error where it is for a call and failed.
-pub record ComesHome (old new : KernelState) (flight : FlightSeen) (of : Option Caller) (answer : Option Reply) : Type 0 where
+pub record IsBroughtHome (old new : KernelState) (flight : FlightSeen) (of : Option Caller) (answer : Option Reply) : Type 0 where
   pub comes : ReturnsFlight old new flight
   pub tells : answer ≡ answer_at_end comes.back of
 

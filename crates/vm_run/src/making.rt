@@ -9,7 +9,7 @@ ghost use Rattle.vm_core.specs.page_store.Flight.{fresh};
 ghost use Rattle.vm_core.specs.vm_world.Events.{IsEvent};
 ghost use Rattle.vm_kernel.specs.Turns.{MayCall};
 ghost use Rattle.vm_run.specs.Lines.{alone_caller, alone_kernel, AreOfOne, HasOneMore, GrowsWith};
-ghost use Rattle.vm_run.specs.Transfers.{MakesTransfer, ComesHome, sent_for};
+ghost use Rattle.vm_run.specs.Transfers.{MakesTransfer, IsBroughtHome, sent_along};
 
 use std::alloc::AllocError;
 use vm_core::{Answer, Attempt, Flight, Plan, VmState};
@@ -24,13 +24,13 @@ fn bring_home<D: Disk>(
     of: Option<(u32, &Call)>,
 ) -> Option<Reply>
     requires fresh { flight.outcome ≡ fresh }
-    requires out { FitsAt state.old 0 (Some (sent_for flight
+    requires out { FitsAt state.old 0 (Some (sent_along flight
         (option_map (λ (c : ℕ × _). (c.0, c.1.now)) of))) }
-    ensures event { IsEvent 0 state.old (Some (sent_for flight
+    ensures event { IsEvent 0 state.old (Some (sent_along flight
         (option_map (λ (c : ℕ × _). (c.0, c.1.now)) of.entry))) state.new None }
     ensures entry { EndsWith state.old state.new
         (option_map (λ (c : ℕ × _). (c.0, c.1.now)) of.entry) result }
-    ensures comes { ComesHome state.old state.new flight
+    ensures comes { IsBroughtHome state.old state.new flight
         (option_map (λ (c : ℕ × _). (c.0, c.1.now)) of.entry) result }
 {
     let _ = flight.perform();

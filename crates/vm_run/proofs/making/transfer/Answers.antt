@@ -2,7 +2,7 @@ use Rattle.std.proofs.Common.{ℕ, Option, Some, None, ap, option_map, Bor}
 use Rattle.volume_files.specs.vm_types.declared.call.Call.{Call}
 use Rattle.vm_core.specs.vm_world.State.{KernelState, Caller, Sent}
 use Rattle.vm_core.specs.vm_world.Events.{IsEvent}
-use Rattle.vm_run.specs.Transfers.{sent_for}
+use Rattle.vm_run.specs.Transfers.{sent_along}
 use Rattle.vm_run.proofs.GoingOn.{still-at}
 use Rattle.vm_run.proofs.Trips.{grows-as, kept_for, kept-here, sent-fits, there-and-back}
 use Rattle.vm_run.proofs.making.transfer.Given.{Over}
@@ -17,7 +17,7 @@ abbrev caller : (g : Over) (c : After-begin g) → Option Caller
 caller g c = option_map (λ (c' : ℕ × Bor Call). (c'.0, c'.1.now)) c.args.of
 
 abbrev sent : (g : Over) (c : After-begin g) → Sent
-sent g c = sent_for c.begin.result (caller g c)
+sent g c = sent_along c.begin.result (caller g c)
 
 out : (g : Over) (c : After-begin g) → IsEvent 0 c.args.state.now None c.begin.new.self (Some (sent g c))
 out g c = c.begin.ensures.event (kept_for c.args.plan (caller g c)) (kept-here c.args.state.now c.args.plan (caller g c) c.requires.kept)
