@@ -2,7 +2,7 @@
 use Rattle.std.proofs.Common.{◌≡◌, ◌⊎◌, ℕ, zero, suc, ◌<◌, ◌≤◌, ◌+◌, List, [], ◌∷◌, length, map, Option, Some, None, refl, sym, ap, ◌∙◌, inl, inr, subst, arith}
 use Rattle.std.specs.Prelude.{filter_map, slice_get}
 use Rattle.std.specs.List.{AllByRecursion, cons_option, range_with_len}
-use Rattle.std.proofs.lemmas.Bool.{cases_eq}
+use Rattle.std.proofs.lemmas.Bool.{cases_eq, cases_lt}
 use Rattle.std.proofs.lemmas.Option.{none-some, same_Some}
 use Rattle.volume_files.specs.vm_script.PlanSeen.{PlanSeen}
 use Rattle.volume_files.specs.vm_script.declared.plan.SetupLine.{SetupLine}
@@ -50,12 +50,9 @@ rise-at (n ∷ ns) i zero x y rise at there lt = absurd (omega (arith, lt))
 rise-at (n ∷ ns) zero (suc j) x y rise at there lt = subst (λ (k : ℕ). k < y) (same_Some n x at) (past-at n ns j y rise.0 there)
 rise-at (n ∷ ns) (suc i) (suc j) x y rise at there lt = rise-at ns i j x y rise.1 at there (omega (arith, lt))
 
-lt-or-not : (a b : ℕ) → (a < b) ⊎ (¬ (a < b))
-lt-or-not a b = grind arith
-
 -- A LOWER NUMBER stands before.
 pub lower-before : (plan : PlanSeen) (i j x y : ℕ) → slice_get (volume_numbers plan) i ≡ Some x → slice_get (volume_numbers plan) j ≡ Some y → x < y → i < j
-lower-before plan i j x y at there lt = elim (lt-or-not i j) [
+lower-before plan i j x y at there lt = elim (cases_lt i j) [
   | inl before ↦ before
   | inr not ↦ elim (cases_eq i j) [
     | inl same ↦ absurd (let e : x ≡ y = same_Some x y (sym at ∙ ap (slice_get (volume_numbers plan)) same ∙ there) in omega (arith, lt, e))

@@ -3,6 +3,7 @@ use Rattle.std.proofs.Common.{◌≡◌, ◌⊎◌, ℕ, zero, suc, ◌+◌, ◌
 use Rattle.std.specs.Prelude.{All, IfOk, Ok, Err, Result, drop, nat_le, nat_lt, option_and_then, option_map, slice_get, if◌then◌else◌}
 use Rattle.std.specs.List.{AllByRecursion, list_any, range_with_len, sum_by}
 use Rattle.std.specs.Str.{bytes_eq}
+use Rattle.std.proofs.lemmas.Bool.{cases_lt}
 use Rattle.std.proofs.lemmas.List.{append_assoc}
 use Rattle.std.proofs.lemmas.List.Sums.{sum_by-cons}
 use Rattle.std.proofs.lemmas.List.FromFn.{get_or-range_with_len, length-range_with_len}
@@ -119,16 +120,13 @@ block-in e page lt =
     ∙ slice_get-get_or (range_with_len e.start e.pages) page 0 (let long = length-range_with_len e.start e.pages in omega (arith, lt, long))
     ∙ ap Some (get_or-range_with_len e.start e.pages page 0 lt)
 
-lt-or-not : (a b : ℕ) → (a < b) ⊎ (¬ (a < b))
-lt-or-not a b = grind arith
-
 module _ (plan : PlanSeen) (holds : Spec → Option (List (List ℕ))) (files : List OpenedFile) (a : AttachedSeen) (made : FilesSeen) (placed : ArePlaced plan holds files a made)
     (shown : PlanSeen) (sizes : List (ℕ × ℕ)) (H : List Entry) (number block : ℕ) (none : IsUnkept (replay (opening_flat shown sizes files) H) number block) where
   -- a file of a line, which is the k-th
   spared-by : (k : ℕ) (f : OpenedFile) → slice_get files k ≡ Some f → HasOneExtent f → SparesBlock f.info f.bytes number block
-  spared-by k f at one own = elim (lt-or-not block (front_block f.info.extents)) [
+  spared-by k f at one own = elim (cases_lt block (front_block f.info.extents)) [
     | inl below ↦ inl below
-    | inr over ↦ elim (lt-or-not block (front_block f.info.extents + pages_in (length f.bytes))) [
+    | inr over ↦ elim (cases_lt block (front_block f.info.extents + pages_in (length f.bytes))) [
       | inl inside ↦ absurd ((unkept-first (opening_flat shown sizes files) H number block none).1 (record { object = k; page = block - one.0.start }) (kept over inside))
       | inr past ↦ inr (omega (arith, past))
     ]
@@ -147,7 +145,7 @@ module _ (plan : PlanSeen) (holds : Spec → Option (List (List ℕ))) (files : 
           let count : sum_by (λ (x : Extent). x.pages) f.info.extents ≡ one.0.pages + 0 = ap (sum_by (λ (x : Extent). x.pages)) one.1 ∙ sum_by-cons (λ (x : Extent). x.pages) one.0 [] in
           omega (arith, within, count)
 
-      kept : ¬ (block < front_block f.info.extents) → block < front_block f.info.extents + pages_in (length f.bytes)
+      kept : front_block f.info.extents ≤ block → block < front_block f.info.extents + pages_in (length f.bytes)
           → disk_place (opening_flat shown sizes files) (record { object = k; page = block - one.0.start }) ≡ Some (number, block)
       kept over inside =
           let own-bytes : HasItsBytes f = All-slice_get HasItsBytes files k f placed.own at in
