@@ -91,12 +91,12 @@ fn make_access<D: Disk>(state: &mut VmState<D>, frames: u32, call: &Call) -> Rep
     unreachable!()
 }
 
-/// Makes a call of process 1 to its end, over so many frames. The error is want of memory; no entry is made then. Not inline, so that
-/// a load or a store has no room for its values.
+/// Makes a call of process 1 to its end, over so many frames. The error is want of memory; no entry is made then. Inline, so that a
+/// reply that nobody reads isn't moved.
 ///
 /// It ends: each transfer leaves one modified page fewer, or one page fewer that the call wants and that isn't home. These are two
 /// pages at most, so that the call is tried so often at most as there are frames, and three times more.
-#[inline(never)]
+#[inline(always)]
 fn make_other<D: Disk>(
     state: &mut VmState<D>,
     frames: u32,
