@@ -75,9 +75,9 @@ fn mounted(alloc: Global) -> Result<Vec<Block>, AllocError> {
     Ok(blocks)
 }
 
-fn has(block: &Block, given: &Block, has: Has) -> bool {
+fn is_as_asked(block: &Block, given: &Block, asked: Has) -> bool {
     let mut bytes = [0; 4096];
-    match has {
+    match asked {
         Given => return block.bytes == given.bytes,
         Anything => return true,
         Table => put_words(&mut bytes, &TABLE),
@@ -98,7 +98,7 @@ fn wrong_block(blocks: &[Block], given: &[Block], all: &[Has]) -> Option<usize> 
         return Some(blocks.len());
     }
     for place in 0..all.len() {
-        if !has(&blocks[place], &given[place], all[place]) {
+        if !is_as_asked(&blocks[place], &given[place], all[place]) {
             return Some(place);
         }
     }
