@@ -106,10 +106,10 @@ fn new_files(alloc: Global) -> Result<Files, AllocError>
     Ok(files)
 }
 
-/// Two processes over six frames and four translations. These calls of disk 0 fail.
-pub(crate) fn started(alloc: Global, fails: &[u64]) -> Result<Trial, Fail> {
+/// Two processes over six frames and four translations. Calls 1 and 4 of disk 0 fail.
+fn started(alloc: Global) -> Result<Trial, Fail> {
     let mut disks = Vec::with_capacity(alloc, 2)?;
-    disks.push_reserved((0, new_disk(alloc, 0, fails)?));
+    disks.push_reserved((0, new_disk(alloc, 0, &[1, 4])?));
     disks.push_reserved((1, new_disk(alloc, 16, &[])?));
     let setup = Setup {
         frames: 6,
@@ -199,7 +199,7 @@ pub(crate) fn call_of(what: What) -> Call
     }
 }
 
-pub(crate) fn make(trial: &mut Trial, act: Act) -> Result<Told, Fail> {
+fn make(trial: &mut Trial, act: Act) -> Result<Told, Fail> {
     match act {
         Act::Do(seat, what) => trial.call(seat, &call_of(what)),
         Act::Try(seat, what) => trial.try_call(seat, &call_of(what), true),
@@ -646,7 +646,7 @@ fn make_acts(trial: &mut Trial, acts: Acts) -> Result<(), Fail> {
 
 // The owner of a state calls little and compares nothing: a step more beside an owned state is long to prove.
 pub(crate) fn made_and_closed(alloc: Global, acts: Acts) -> Result<Outcome, Fail> {
-    let mut trial = started(alloc, &[1, 4])?;
+    let mut trial = started(alloc)?;
     make_acts(&mut trial, acts)?;
     let finished = trial.finish()?;
     Ok(look_at(acts, &finished))
