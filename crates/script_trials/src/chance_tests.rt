@@ -101,7 +101,7 @@ fn is_answered(alloc: Global, text: &[u8]) -> Result<bool, AllocError> {
             Some(rule) => (rule >= 1 && rule <= 8) || rule == 14,
         }),
         Err(fault) => {
-            let behind = count_lines(text) + 1;
+            let behind = count_lines(text).saturating_add(1);
             let line = fault.line as usize;
             let there = line < behind || (line == behind && fault.kind == ScriptKind::Place);
             Ok(line >= 1 && there && is_first(alloc, before_line(text, fault.line), fault.line)?)
