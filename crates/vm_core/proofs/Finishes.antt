@@ -1,5 +1,6 @@
 -- What is left of a world: the disks that come out hold the files.
 use Rattle.fault_entry.proofs.seg_ops.FillSteps.{some-of as some-blocks}
+use Rattle.fault_entry.proofs.seg_ops.Fills.{clip-zeros}
 use Rattle.std.proofs.Common.{◌≡◌, ℕ, zero, suc, ◌<◌, ◌≤◌, Bool, true, false, cond, List, [], ◌∷◌, length, Option, Some, None, Result, Ok, Err, refl, sym, ap, ◌∙◌, inl, inr, subst, arith}
 use Rattle.std.specs.Prelude.{slice_index, slice_index_or, IsSome, IsTrue, IfSome, IfNone, IfErr, OnOk, MatchResult}
 use Rattle.std.specs.Result.{IsOk}
@@ -28,8 +29,8 @@ use Rattle.fault_entry.proofs.vm_world.Clips.{clip-twice}
 use Rattle.fault_entry.proofs.vm_world.FrameRule.{memory_of}
 use Rattle.fault_entry.proofs.seg_ops.Disks.{lives-on, dirty-exists}
 use Rattle.fault_entry.proofs.seg_ops.Evictions.{unlocked}
-use Rattle.vm_core.specs.Finish.{IsFilePage, bytes_of_page, disk_at, disks_of, HoldsPage, HoldsOrKeeps, HoldAllFiles, LeaveAllPages, KeepsOtherBlocks, KeepsDisk, KeepDisks, KeepRecords, IsLastFault, HaveNoBlankPage}
-use Rattle.vm_core.specs.Closing.{KeepsBay, PushesPages, StoresPages, IsFaultOfBays, FailsToPush, GoOrStay, GoesOrStays, block_on, no_page, AreDisksOf, page_on_disk, WritesBlanks, FillsPages, ZeroedOrStays, FailsToFill}
+use Rattle.vm_core.specs.Finish.{IsFilePage, bytes_of_page, disk_at, disks_of, HoldsPage, HoldAllFiles, LeaveAllPages, KeepsOtherBlocks, KeepsDisk, KeepDisks, KeepRecords, IsLastFault, HaveNoBlankPage}
+use Rattle.vm_core.specs.Closing.{KeepsBay, PushesPages, StoresPages, IsFaultOfBays, FailsToPush, GoOrStay, GoesOrStays, IsWritten, IsWrittenOrKept, IsSpoiled, WriteAllPages, block_on, no_page, AreDisksOf, page_on_disk, WritesBlanks, FillsPages, ZeroedOrStays, ZeroedOrStay, FailsToFill}
 use Rattle.vm_core.proofs.Records.{records-back, records-then, page-kept, disk-kept, block-kept, bytes-kept, lies-back, keeps-disk-refl, keep-disks-then}
 use Rattle.vm_core.proofs.Fills.{block-within, fault-then}
 use Rattle.vm_core.proofs.Pushes.{records-of}
@@ -43,7 +44,7 @@ still w nf number = by_bay (bay_at w.store.bays number) refl
     by_bay (home d) e = tt
     by_bay (out seat) e = let has = nf.stored.each_bay number seat e in let z : ◌≡◌ {A = Option Note} None (Some has.0) = has.1 in absurd (cc)
 
-home-of : (b : BaySeen) → IsStill b → (b ≡ missing → ⊥) → b ≡ home (disk_in b)
+pub home-of : (b : BaySeen) → IsStill b → (b ≡ missing → ⊥) → b ≡ home (disk_in b)
 home-of missing s there = absurd (there refl)
 home-of (home d) s there = refl
 home-of (out seat) s there = absurd s
@@ -144,20 +145,29 @@ disk-of-page w i name lt on =
 block-in-order : (w : World) (i : ℕ) (name : PageName) → i < length (disks_of w) → disk_of_file w.files name.object ≡ (disk_at (disks_of w) i).0 → block_on w name ≡ block_of (disk_at (disks_of w) i).1.content (block_of_page w.files name.object name.page)
 block-in-order w i name lt on = ap (λ (d : DiskSeen). block_of d.content (block_of_page w.files name.object name.page)) (sym (disk-of-page w i name lt on))
 
--- WHAT THE DISKS HAVE AFTER A FAULT: each block of a page its page, or what it had.
+-- WHAT THE BLOCKS OF PAGES HAVE: each its page, with zeros after it, or what it had.
 both-told : (a b : Option (List (List ℕ))) (P : List (List ℕ) → List (List ℕ) → Type 0) → ((x y : List (List ℕ)) → a ≡ Some x → b ≡ Some y → P x y) → IfSome a (λ x. IfSome b (λ y. P x y))
 both-told None b P h = tt
 both-told (Some x) None P h = tt
 both-told (Some x) (Some y) P h = h x y refl refl
 
-holds-or-keeps : (u v : World) (name : PageName) (old new : List (List ℕ)) → block_on u name ≡ slice_index_or old (block_of_page u.files name.object name.page) [] → block_on v name ≡ slice_index_or new (block_of_page u.files name.object name.page) []
-    → GoesOrStays u v name → HoldsOrKeeps u old new name
-holds-or-keeps u v name old new was is way = elim way [
-  | inl went ↦ inl (ap (clip (bytes_of_page u.files name)) (sym is) ∙ went)
+both-map : (a b : Option (List (List ℕ))) (P Q : List (List ℕ) → List (List ℕ) → Type 0) → ((x y : List (List ℕ)) → P x y → Q x y) → IfSome a (λ x. IfSome b (λ y. P x y)) → IfSome a (λ x. IfSome b (λ y. Q x y))
+both-map None b P Q then h = tt
+both-map (Some x) None P Q then h = tt
+both-map (Some x) (Some y) P Q then h = then x y h
+
+written-or-kept : (u v : World) (name : PageName) (old new : List (List ℕ)) → block_on u name ≡ slice_index_or old (block_of_page u.files name.object name.page) [] → block_on v name ≡ slice_index_or new (block_of_page u.files name.object name.page) []
+    → GoesOrStays u v name → IsWrittenOrKept u old new name
+written-or-kept u v name old new was is way = elim way [
+  | inl went ↦ inl (subst (IsWritten u name) is went)
   | inr stayed ↦ inr (sym is ∙ stayed ∙ was)
 ]
 
-module _ (u v : World) (spaces : Spaces) (p : PushesPages u v spaces) (fault : DiskFault) (tell : AllTell u no_notes) where
+spoiled-back : (F G : FilesSeen) (fault : Option DiskFault) (block : ℕ) (name : PageName) → KeepRecords F G → IsSpoiled G fault block name → IsSpoiled F fault block name
+spoiled-back F G None block name k spoiled = spoiled
+spoiled-back F G (Some f) block name k spoiled = lies-back F G f.disk block name k spoiled
+
+module _ (u v : World) (spaces : Spaces) (p : PushesPages u v spaces) (tell : AllTell u no_notes) where
   abbrev K : KeepRecords u.files v.files
   K = records-of u v p.tables
 
@@ -183,49 +193,66 @@ module _ (u v : World) (spaces : Spaces) (p : PushesPages u v spaces) (fault : D
     between = block-in-order v i name (stays-within i lt) (stays-on i name lt on) ∙ ap (block_of (disk_at (disks_of v) i).1.content) (block-kept u.files v.files K name)
 
     -- zeros that came to a blank page, which showed zeros
-    zeros-held : (e : DiskSeen) (new : List (List ℕ)) → StoresPages u v (λ (m : PageName). Unit {0}) → e.content ≡ Some new → IsTrue (is_blank (vnode_at v.files name.object) name.page)
-        → block_of e.content (block_of_page v.files name.object name.page) ≡ zeros → HoldsPage u.files new name (page_value u no_notes name)
-    zeros-held e new stores is blank zeroed =
+    zeros-written : (e : DiskSeen) (new : List (List ℕ)) → StoresPages u v (λ (m : PageName). Unit {0}) → e.content ≡ Some new → IsTrue (is_blank (vnode_at v.files name.object) name.page)
+        → block_of e.content (block_of_page v.files name.object name.page) ≡ zeros → IsWritten u name (slice_index_or new at-block [])
+    zeros-written e new stores is blank zeroed =
         let D : DiskSeen = disk_in (bay_at v.store.bays (disk_of_file v.files name.object)) in
-        ap (clip in-file) (sym (ap (λ (o : Option (List (List ℕ))). block_of o at-block) is) ∙ subst (λ (m : ℕ). block_of e.content m ≡ zeros) (block-kept u.files v.files K name) zeroed)
-        ∙ ap (clip in-file) (sym (ap (λ (x : Bool). cond x zeros (clip (bytes_of_page v.files name) (block_of D.content (block_of_page v.files name.object name.page)))) blank))
-        ∙ subst (λ (m : ℕ). clip m (page_on_disk v.files D name) ≡ clip m (page_value v no_notes name)) (bytes-kept u.files v.files K name) (stores tell name page (inr tt))
-        ∙ p.values tell name page
+        let low : in-file ≤ 4096 = omega arith in
+        let here : slice_index_or new at-block [] ≡ zeros = sym (ap (λ (o : Option (List (List ℕ))). block_of o at-block) is) ∙ subst (λ (m : ℕ). block_of e.content m ≡ zeros) (block-kept u.files v.files K name) zeroed in
+        record {
+          page = ap (clip in-file) here
+              ∙ ap (clip in-file) (sym (ap (λ (x : Bool). cond x zeros (clip (bytes_of_page v.files name) (block_of D.content (block_of_page v.files name.object name.page)))) blank))
+              ∙ subst (λ (m : ℕ). clip m (page_on_disk v.files D name) ≡ clip m (page_value v no_notes name)) (bytes-kept u.files v.files K name) (stores tell name page (inr tt))
+              ∙ p.values tell name page;
+          rest = here ∙ sym (ap (clip in-file) here ∙ clip-zeros in-file low);
+        }
 
-    zeroed-held : (old new : List (List ℕ)) (e : DiskSeen) → GoOrStay u v no_page → StoresPages u v (λ (m : PageName). Unit {0}) → (disk_at (disks_of u) i).1.content ≡ Some old → e.content ≡ Some new
-        → ZeroedOrStays v.files (disk_at (disks_of v) i).1 e name → HoldsOrKeeps u old new name
-    zeroed-held old new e goes stores was is way = elim way [
-      | inl blanked ↦ inl (zeros-held e new stores is blanked.0 blanked.1)
+    zeroed-written : (old new : List (List ℕ)) (e : DiskSeen) → GoOrStay u v no_page → StoresPages u v (λ (m : PageName). Unit {0}) → (disk_at (disks_of u) i).1.content ≡ Some old → e.content ≡ Some new
+        → ZeroedOrStays v.files (disk_at (disks_of v) i).1 e name → IsWrittenOrKept u old new name
+    zeroed-written old new e goes stores was is way = elim way [
+      | inl blanked ↦ inl (zeros-written e new stores is blanked.0 blanked.1)
       | inr stays ↦
           let same : block_of e.content at-block ≡ block_of (disk_at (disks_of v) i).1.content at-block = subst (λ (m : ℕ). block_of e.content m ≡ block_of (disk_at (disks_of v) i).1.content m) (block-kept u.files v.files K name) stays in
           elim (goes tell name page) [
             | inl none ↦ absurd none
-            | inr went ↦ holds-or-keeps u v name old new (was-told old was) (between ∙ sym same ∙ ap (λ (o : Option (List (List ℕ))). block_of o at-block) is) went
+            | inr went ↦ written-or-kept u v name old new (was-told old was) (between ∙ sym same ∙ ap (λ (o : Option (List (List ℕ))). block_of o at-block) is) went
           ]
     ]
 
   -- where a push failed, and no disk was written any more
-  left-by-push : FailsToPush u v fault → LeaveAllPages u (disks_of u) (disks_of v) fault.disk
-  left-by-push f = (
+  written-by-push : (fault : DiskFault) → FailsToPush u v fault → WriteAllPages u (disks_of u) (disks_of v) (Some fault)
+  written-by-push fault f = (
     f.block,
     λ i lt. both-told (disk_at (disks_of u) i).1.content (disk_at (disks_of v) i).1.content _ (λ old new was is name page on. elim (f.others tell name page) [
       | inl lies ↦ inl lies
-      | inr way ↦ inr (holds-or-keeps u v name old new (was-told i lt name page on old was) (between i lt name page on ∙ ap (λ (o : Option (List (List ℕ))). block_of o (block_of_page u.files name.object name.page)) is) way)
+      | inr way ↦ inr (written-or-kept u v name old new (was-told i lt name page on old was) (between i lt name page on ∙ ap (λ (o : Option (List (List ℕ))). block_of o (block_of_page u.files name.object name.page)) is) way)
     ]),
   )
 
-  -- where zeros failed, behind all pushes
-  left-by-fill : (M : List (ℕ × DiskSeen)) → GoOrStay u v no_page → StoresPages u v (λ (m : PageName). Unit {0}) → KeepDisks v.files (disks_of v) M → FailsToFill v.files (disks_of v) M fault → LeaveAllPages u (disks_of u) M fault.disk
-  left-by-fill M goes stores keeps f = (
-    f.block,
+  -- where zeros were written, behind all pushes, and failed or didn't
+  written-by-fill : (M : List (ℕ × DiskSeen)) (fault : Option DiskFault) (block : ℕ) → GoOrStay u v no_page → StoresPages u v (λ (m : PageName). Unit {0}) → KeepDisks v.files (disks_of v) M
+      → ZeroedOrStay v.files (disks_of v) M (IsSpoiled v.files fault block) → WriteAllPages u (disks_of u) M fault
+  written-by-fill M fault block goes stores keeps zeroed = (
+    block,
     λ i lt. both-told (disk_at (disks_of u) i).1.content (disk_at M i).1.content _ (λ old new was is name page on.
         let within = stays-within i lt in
         let told = told-back v.files (disk_at (disks_of v) i).0 (disk_at (disks_of v) i).1.content (disk_at M i).1.content (keeps.each i within).blocks (subst IsSome (sym is) refl) in
-        elim (f.others i name within (page-kept u.files v.files K name page) (stays-on i name lt on) told) [
-          | inl lies ↦ inl (lies-back u.files v.files fault.disk f.block name K lies)
-          | inr way ↦ inr (zeroed-held i lt name page on old new (disk_at M i).1 goes stores was is way)
+        elim (zeroed i name within (page-kept u.files v.files K name page) (stays-on i name lt on) told) [
+          | inl spoiled ↦ inl (spoiled-back u.files v.files fault block name K spoiled)
+          | inr way ↦ inr (zeroed-written i lt name page on old new (disk_at M i).1 goes stores was is way)
         ]),
   )
+
+-- after a fault no more is said of where zeros stand
+pub left-of-written : (w : World) (old new : List (ℕ × DiskSeen)) (fault : DiskFault) → WriteAllPages w old new (Some fault) → LeaveAllPages w old new fault.disk
+left-of-written w old new fault h = (
+  h.0,
+  λ i lt. both-map (disk_at old i).1.content (disk_at new i).1.content _ _ (λ was now pages name page on. elim (pages name page on) [
+    | inl lies ↦ inl lies
+    | inr (inl written) ↦ inr (inl written.page)
+    | inr (inr same) ↦ inr (inr same)
+  ]) (h.1 i lt),
+)
 
 -- ALL FILES ARE HELD.
 module _ (u v : World) (spaces : Spaces) (G : FilesSeen) (M : List (ℕ × DiskSeen)) (fits : MemoryFits (memory_of v spaces)) (p : PushesPages u v spaces) (stores : StoresPages u v (λ (n : PageName). Unit {0}))
@@ -310,19 +337,30 @@ first-fault u v spaces (Err first) seen xs ys fault fits p same push f =
     subst (λ (l : List (ℕ × DiskSeen)). IsLastFault (disks_of u) l fault) (sym (ap seen f.1 ∙ same))
     (push-last u v spaces fault fits p (subst (IsFaultOfBays u.store.bays v.store.bays) (sym f.0) push.cause))
 
-pub first-left : {D : Type 0} (u v : World) (spaces : Spaces) (pushed : Result (Unit {0}) DiskFault) (seen : List (ℕ × D) → List (ℕ × DiskSeen)) (xs ys : List (ℕ × D)) (fault : DiskFault) → PushesPages u v spaces
+pub first-written : {D : Type 0} (u v : World) (spaces : Spaces) (pushed : Result (Unit {0}) DiskFault) (G : FilesSeen) (seen : List (ℕ × D) → List (ℕ × DiskSeen)) (xs ys : List (ℕ × D)) (fault : Option DiskFault) → PushesPages u v spaces
     → seen xs ≡ disks_of v → OnOk pushed (StoresPages u v (λ (n : PageName). Unit {0})) → OnOk pushed (GoOrStay u v no_page) → IfErr pushed (FailsToPush u v) → KeepDisks v.files (disks_of v) (seen ys)
-    → MatchResult pushed (λ _. FailsToFill v.files (seen xs) (seen ys) fault) (λ first. (fault ≡ first) × (ys ≡ xs)) → AllTell u no_notes → LeaveAllPages u (disks_of u) (seen ys) fault.disk
-first-left u v spaces (Ok x) seen xs ys fault p same stores goes push keeps f tell =
-    left-by-fill u v spaces p fault tell (seen ys) goes stores keeps (subst (λ (l : List (ℕ × DiskSeen)). FailsToFill v.files l (seen ys) fault) same f)
-first-left u v spaces (Err first) seen xs ys fault p same stores goes push keeps f tell =
-    subst (λ (l : List (ℕ × DiskSeen)). LeaveAllPages u (disks_of u) l fault.disk) (sym (ap seen f.1 ∙ same)) (left-by-push u v spaces p fault tell (subst (FailsToPush u v) (sym f.0) push))
+    → IfNone fault (IsOk pushed × FillsPages v.files (seen xs) G (seen ys) (λ (n : PageName). Unit {0})) → IfNone fault (ZeroedOrStay v.files (seen xs) (seen ys) no_page)
+    → IfSome fault (λ f. MatchResult pushed (λ _. FailsToFill v.files (seen xs) (seen ys) f) (λ first. (f ≡ first) × (ys ≡ xs))) → AllTell u no_notes → WriteAllPages u (disks_of u) (seen ys) fault
+first-written u v spaces (Ok x) G seen xs ys None p same stores goes push keeps fills zeroed f tell =
+    written-by-fill u v spaces p tell (seen ys) None 0 goes stores keeps
+    (λ i name lt page on told. elim (subst (λ (l : List (ℕ × DiskSeen)). ZeroedOrStay v.files l (seen ys) no_page) same zeroed i name lt page on told) [ inl none ↦ absurd none | inr way ↦ inr way ])
+first-written u v spaces (Ok x) G seen xs ys (Some fault) p same stores goes push keeps fills zeroed f tell =
+    let fails = subst (λ (l : List (ℕ × DiskSeen)). FailsToFill v.files l (seen ys) fault) same f in
+    written-by-fill u v spaces p tell (seen ys) (Some fault) fails.block goes stores keeps fails.others
+first-written u v spaces (Err first) G seen xs ys None p same stores goes push keeps fills zeroed f tell = absurd (let z : false ≡ true = fills.0 in cc)
+first-written u v spaces (Err first) G seen xs ys (Some fault) p same stores goes push keeps fills zeroed f tell =
+    subst (λ (l : List (ℕ × DiskSeen)). WriteAllPages u (disks_of u) l (Some fault)) (sym (ap seen f.1 ∙ same)) (written-by-push u v spaces p tell fault (subst (FailsToPush u v) (sym f.0) push))
+
+left-then : (u : World) (L : List (ℕ × DiskSeen)) (fault : Option DiskFault) → (AllTell u no_notes → WriteAllPages u (disks_of u) L fault) → IfSome fault (λ f. AllTell u no_notes → LeaveAllPages u (disks_of u) L f.disk)
+left-then u L None written = tt
+left-then u L (Some f) written = λ tell. left-of-written u (disks_of u) L f (written tell)
 
 -- ALL THAT IS SAID of what is left.
 pub record IsFinished (u : World) (G : FilesSeen) (L : List (ℕ × DiskSeen)) (fault : Option DiskFault) : Type 0 where
   pub closed : IfNone fault (AllTell u no_notes → HoldAllFiles u L)
   pub filled : IfNone fault (HaveNoBlankPage G)
   pub last : IfSome fault (IsLastFault (disks_of u) L)
+  pub written : AllTell u no_notes → WriteAllPages u (disks_of u) L fault
   pub left : IfSome fault (λ f. AllTell u no_notes → LeaveAllPages u (disks_of u) L f.disk)
   pub disks : KeepDisks u.files (disks_of u) L
   pub files : KeepRecords u.files G
@@ -331,14 +369,17 @@ pub finishes : {D : Type 0} (seen : List (ℕ × D) → List (ℕ × DiskSeen)) 
     → ((i : ℕ) → HasBlocks (disk_at (seen ys) i).1.content (disk_at (seen ys) i).1.size) → MemoryFits (memory_of u spaces) → PushesPages u v spaces → seen xs ≡ disks_of v
     → OnOk pushed (StoresPages u v (λ (n : PageName). Unit {0})) → OnOk pushed (GoOrStay u v no_page) → IfErr pushed (FailsToPush u v) → WritesBlanks v.files (seen xs) G (seen ys)
     → IfNone fault (IsOk pushed × FillsPages v.files (seen xs) G (seen ys) (λ (n : PageName). Unit {0}))
+    → IfNone fault (ZeroedOrStay v.files (seen xs) (seen ys) no_page)
     → IfSome fault (λ f. MatchResult pushed (λ _. FailsToFill v.files (seen xs) (seen ys) f) (λ first. (f ≡ first) × (ys ≡ xs))) → IsFinished u G (seen ys) fault
-finishes seen u v spaces pushed G xs ys fault whole fits p same stores goes push writes fills faults =
+finishes seen u v spaces pushed G xs ys fault whole fits p same stores goes push writes fills zeroed faults =
     let w : WritesBlanks v.files (disks_of v) G (seen ys) = subst (λ (l : List (ℕ × DiskSeen)). WritesBlanks v.files l G (seen ys)) same writes in
+    let written = first-written u v spaces pushed G seen xs ys fault p same stores goes push w.disks fills zeroed faults in
     record {
       closed = none-then fault _ _ (λ ok. all-held u v spaces G (seen ys) p.memory p (ok-then pushed _ stores ok.0) w (subst (λ (l : List (ℕ × DiskSeen)). FillsPages v.files l G (seen ys) (λ (n : PageName). Unit {0})) same ok.1) whole) fills;
       filled = none-then fault _ _ (λ ok. none-blank u v spaces G (seen ys) p.memory p (ok-then pushed _ stores ok.0) w (subst (λ (l : List (ℕ × DiskSeen)). FillsPages v.files l G (seen ys) (λ (n : PageName). Unit {0})) same ok.1) whole) fills;
       last = some-then fault _ _ (λ f is. first-fault u v spaces pushed seen xs ys f fits p same push is) faults;
-      left = some-then fault _ _ (λ f is. first-left u v spaces pushed seen xs ys f p same stores goes push w.disks is) faults;
+      written = written;
+      left = left-then u (seen ys) fault written;
       disks = keep-disks-then u.files v.files (disks_of u) (disks_of v) (seen ys) (records-of u v p.tables) (push-disks u v spaces p) w.disks;
       files = records-then u.files v.files G (records-of u v p.tables) w.records;
     }

@@ -3,6 +3,8 @@ pub mod Fills
 pub mod Pushes
 pub mod OnePush
 pub mod Finishes
+pub mod MarkTables
+pub mod LeftMarks
 pub mod Ledgers
 pub mod Tops
 pub mod OwnFiles

@@ -40,7 +40,7 @@ use Rattle.fault_entry.specs.seg_ops.Steps.{IsUnwritten}
 use Rattle.fault_entry.proofs.seg_ops.Evictions.{clean-page, not-modified}
 use Rattle.fault_entry.proofs.seg_ops.StillSteps.{value-is}
 use Rattle.vm_core.specs.Finish.{IsFilePage, LiesIn, bytes_of_page, KeepRecords}
-use Rattle.vm_core.specs.Closing.{KeepsBay, PushesPages, IsStored, StoresPages, IsFaultOfBays, FailsToPush, GoOrStay, GoesOrStays, block_on, no_page, page_on_disk}
+use Rattle.vm_core.specs.Closing.{KeepsBay, PushesPages, IsStored, StoresPages, IsFaultOfBays, FailsToPush, GoOrStay, GoesOrStays, IsWritten, block_on, no_page, page_on_disk}
 use Rattle.vm_core.proofs.Records.{page-kept, bytes-kept, lies-back, keeps-disk-refl, keeps-disk-then}
 use Rattle.vm_core.proofs.Fills.{kept-page}
 
@@ -130,13 +130,19 @@ fault-later u v w spaces fault p f =
 pub goes-refl : (w : World) → GoOrStay w w no_page
 goes-refl w tell name page = inr (inr refl)
 
+written-before : (u v : World) (spaces : Spaces) (name : PageName) (block : List ℕ) → PushesPages u v spaces → AllTell u no_notes → IsFilePage u.files name → IsWritten v name block → IsWritten u name block
+written-before u v spaces name block p tell page h =
+    let n = bytes-kept u.files v.files (records-of u v p.tables) name in
+    record {
+      page = subst (λ (k : ℕ). clip k block ≡ clip k (page_value v no_notes name)) n h.page ∙ p.values tell name page;
+      rest = subst (λ (k : ℕ). block ≡ clip k block) n h.rest;
+    }
+
 goes-both : (u v w : World) (spaces : Spaces) (name : PageName) → PushesPages u v spaces → AllTell u no_notes → IsFilePage u.files name → GoesOrStays u v name → GoesOrStays v w name → GoesOrStays u w name
 goes-both u v w spaces name p tell page first second = elim second [
-  | inl went ↦
-      let n = bytes-kept u.files v.files (records-of u v p.tables) name in
-      inl (subst (λ (k : ℕ). clip k (block_on w name) ≡ clip k (page_value v no_notes name)) n went ∙ p.values tell name page)
+  | inl went ↦ inl (written-before u v spaces name (block_on w name) p tell page went)
   | inr stayed ↦ elim first [
-    | inl went ↦ inl (ap (clip (bytes_of_page u.files name)) stayed ∙ went)
+    | inl went ↦ inl (subst (IsWritten u name) (sym stayed) went)
     | inr still ↦ inr (stayed ∙ still)
   ]
 ]

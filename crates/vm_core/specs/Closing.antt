@@ -1,5 +1,5 @@
 -- How pages of files come to be on their disks. Inside: no public clause cites this.
-use Rattle.std.specs.Prelude.{ℕ, ◌≡◌, ◌⊎◌, ◌<◌, List, length, Some, Result, IsSome, IsTrue, IsFalse, if◌then◌else◌, slice_set}
+use Rattle.std.specs.Prelude.{ℕ, ◌≡◌, ◌⊎◌, ◌<◌, List, [], length, Option, Some, Result, IsSome, IsSomeAnd, IfSome, IsTrue, IsFalse, if◌then◌else◌, slice_index_or, slice_set}
 use Rattle.std.specs.FinMap as finite
 use Rattle.fault_entry.specs.block_device.DiskSeen.{DiskSeen, Writes}
 use Rattle.fault_entry.specs.block_device.Faults.{IsFaultSince}
@@ -61,11 +61,14 @@ StoresPages old new these =
 abbrev pub block_on : World → PageName → List ℕ
 block_on w name = block_of (disk_in (bay_at w.store.bays (disk_of_file w.files name.object))).content (block_of_page w.files name.object name.page)
 
--- The block of a page of a file has the page then, as far as the file goes, or what it had.
+-- A block has a page as far as its file goes, with zeros after it.
+pub record IsWritten (w : World) (name : PageName) (block : List ℕ) : Type 0 where
+  pub page : clip (bytes_of_page w.files name) block ≡ clip (bytes_of_page w.files name) (page_value w no_notes name)
+  pub rest : block ≡ clip (bytes_of_page w.files name) block
+
+-- The block of a page of a file has the page then, with zeros after it, or what it had.
 abbrev pub GoesOrStays : World → World → PageName → Type 0
-GoesOrStays old new name =
-    (clip (bytes_of_page old.files name) (block_on new name) ≡ clip (bytes_of_page old.files name) (page_value old no_notes name))
-    ⊎ (block_on new name ≡ block_on old name)
+GoesOrStays old new name = IsWritten old name (block_on new name) ⊎ (block_on new name ≡ block_on old name)
 
 -- So has that of each page of a file, these aside.
 abbrev pub GoOrStay : World → World → (PageName → Type 0) → Type 0
@@ -135,3 +138,23 @@ pub record WritesZeros {E : Type 0} (before after : List (ℕ × DiskSeen)) (num
   pub disk : DiskSeen
   pub new : after ≡ slice_set before at (number, disk)
   pub writes : Writes (disk_at before at).1 disk block zeros result
+
+-- The page lies in the block of which a transfer failed.
+abbrev pub IsSpoiled : FilesSeen → Option DiskFault → ℕ → PageName → Type 0
+IsSpoiled files fault block name = IsSomeAnd fault (λ f. LiesIn files f.disk block name)
+
+-- The block of a page has the page, with zeros after it, or what it had.
+abbrev pub IsWrittenOrKept : World → List (List ℕ) → List (List ℕ) → PageName → Type 0
+IsWrittenOrKept w was now name =
+    IsWritten w name (slice_index_or now (block_of_page w.files name.object name.page) [])
+    ⊎ (slice_index_or now (block_of_page w.files name.object name.page) [] ≡ slice_index_or was (block_of_page w.files name.object name.page) [])
+
+-- Of a disk that tells: each page of a file that lies there does so, unless it is spoiled.
+abbrev pub WritesPages : World → Option DiskFault → ℕ → ℕ × DiskSeen → ℕ × DiskSeen → Type 0
+WritesPages w fault block was now =
+    IfSome was.1.content (λ old. IfSome now.1.content (λ new. (name : PageName) → IsFilePage w.files name → disk_of_file w.files name.object ≡ was.0
+    → IsSpoiled w.files fault block name ⊎ IsWrittenOrKept w old new name))
+
+-- On all of these disks, by whether a transfer failed, and by the block that it was of.
+abbrev pub WriteAllPages : World → List (ℕ × DiskSeen) → List (ℕ × DiskSeen) → Option DiskFault → Type 0
+WriteAllPages w old new fault = (block : ℕ) × ((i : ℕ) → i < length old → WritesPages w fault block (disk_at old i) (disk_at new i))

@@ -1,4 +1,5 @@
 pub mod Finish
+pub mod LeftMarks
 pub mod Closing
 pub mod Ledger
 pub mod Marks

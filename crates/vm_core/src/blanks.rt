@@ -116,6 +116,8 @@ pub(crate) fn fill_if_pushed<D: Disk>(
     requires { AreDisksOf files.old (pairs_seen D.seen disks.old) }
     ensures fills { IfNone result (IsOk pushed × FillsPages files.old (pairs_seen D.seen disks.old)
         files.new (pairs_seen D.seen disks.new) (λ name. Unit {0})) }
+    ensures goes { IfNone result (ZeroedOrStay files.old
+        (pairs_seen D.seen disks.old) (pairs_seen D.seen disks.new) no_page) }
     ensures fault { IfSome result (λ fault. MatchResult pushed
         (λ _. FailsToFill files.old
         (pairs_seen D.seen disks.old) (pairs_seen D.seen disks.new) fault)

@@ -21,7 +21,7 @@ use crate::state::VmState;
 use fault_entry::{Call, Disk, Flight, Reply, end_flight};
 
 // No count is past the end of counts.
-fn within_counts(count: u64)
+pub(crate) fn within_counts(count: u64)
     ensures { count ≤ top_count }
 {
     let _ = count;

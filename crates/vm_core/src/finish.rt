@@ -1,16 +1,23 @@
 //! The end: modified and blank pages of files go to their disks, and the history and the disks come out.
-ghost use Rattle.std.specs.Prelude.{◌≡◌, ℕ, None, IfNone, IfSome, MatchOption, slice_index_or};
+ghost use Rattle.std.specs.Prelude.{◌≡◌, ◌≤◌, ℕ, None, IfNone, IfSome, MatchOption, slice_index_or};
 ghost use Rattle.fault_entry.specs.page_store.Bays.{bay_at, home, missing, home_faults, pairs_seen};
 ghost use Rattle.fault_entry.specs.page_store.Notes.{no_notes};
 ghost use Rattle.fault_entry.specs.page_store.Seen.{IsSoundStore};
 ghost use Rattle.vm_core.specs.Finish.{FitsStill, disks_of, HoldAllFiles, LeaveAllPages, IsLastFault, KeepDisks, KeepRecords, HaveNoBlankPage};
+ghost use Rattle.vm_core.specs.Closing.{WriteAllPages};
+ghost use Rattle.vm_core.specs.LeftMarks.{LeavesMarks};
+ghost use Rattle.fault_entry.specs.flat_model.Counted.{top_count};
+ghost use Rattle.fault_entry.specs.flat_model.Flat.{Flat};
 ghost use Rattle.fault_entry.specs.vm_world.MemoryFits.{MemoryFits};
 ghost use Rattle.fault_entry.specs.vm_world.NotesFit.{NotesFit};
+ghost use Rattle.fault_entry.specs.vm_world.Opening.{no_seats};
 ghost use Rattle.fault_entry.specs.vm_world.Segments.{Spaces};
+ghost use Rattle.fault_entry.specs.vm_world.StateFits.{StateFits};
 ghost use Rattle.fault_entry.specs.vm_world.World.{world_seen, AllTell};
 
 use crate::blanks::fill_if_pushed;
 use crate::closing::push_files;
+use crate::ends::within_counts;
 use crate::history::KernelHistory;
 use crate::state::VmState;
 use fault_entry::{Disk, DiskFault, Entry, Files, Store, World};
@@ -38,6 +45,16 @@ fn fault_counts<D: Disk>(store: &Store<D>) -> [Option<u64>; 9]
     counts
 }
 
+// No count of a fault is past the end of counts.
+fn within_fault(fault: Option<DiskFault>)
+    ensures { IfSome fault (λ f. (f.before ≤ top_count) × (f.after ≤ top_count)) }
+{
+    if let Some(fault) = fault {
+        within_counts(fault.before);
+        within_counts(fault.after);
+    }
+}
+
 /// Writes a world's files to their disks, which come out with what is left.
 fn finish_world<D: Disk>(world: World<D>, entries: Vec<Entry>) -> Finished<D>
     requires fits { (spaces : Spaces)
@@ -58,6 +75,11 @@ fn finish_world<D: Disk>(world: World<D>, entries: Vec<Entry>) -> Finished<D>
     ensures left { IfSome result.fault (λ fault. AllTell (world_seen world) no_notes
         → LeaveAllPages (world_seen world) (disks_of (world_seen world))
         (pairs_seen D.seen result.disks.items) fault.disk) }
+    // Fault or not: each block of a page has the page, with zeros after it, or what it had, but for
+    // the block of which the transfer failed.
+    ensures written { AllTell (world_seen world) no_notes → WriteAllPages (world_seen world)
+        (disks_of (world_seen world)) (pairs_seen D.seen result.disks.items) result.fault }
+    ensures within { IfSome result.fault (λ f. (f.before ≤ top_count) × (f.after ≤ top_count)) }
     // What stays.
     ensures disks { KeepDisks world.files (disks_of (world_seen world))
         (pairs_seen D.seen result.disks.items) }
@@ -71,6 +93,7 @@ fn finish_world<D: Disk>(world: World<D>, entries: Vec<Entry>) -> Finished<D>
     let (mut disks, swap) = world.store.into_disks();
     let mut files = world.files;
     let fault = fill_if_pushed(pushed, &mut files, disks.as_mut_slice());
+    within_fault(fault);
     Finished {
         history: KernelHistory::of(entries, faults),
         files,
@@ -102,6 +125,11 @@ impl<D: Disk> VmState<D> {
         ensures left { IfSome result.fault (λ fault. AllTell self.memory.world no_notes
             → LeaveAllPages self.memory.world (disks_of self.memory.world)
             (pairs_seen D.seen result.disks.items) fault.disk) }
+        // Fault or not: where the disks tell, marks are true of what they have. Each is the state's, or
+        // it holds its page after all entries, or it names the fault; so none is older.
+        ensures marks { (opening : Flat) → StateFits opening self no_seats
+            → AllTell self.memory.world no_notes
+            → LeavesMarks opening self (pairs_seen D.seen result.disks.items) result.fault }
         // What stays, with a fault too.
         ensures disks { KeepDisks self.memory.world.files (disks_of self.memory.world)
             (pairs_seen D.seen result.disks.items) }

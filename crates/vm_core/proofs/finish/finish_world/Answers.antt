@@ -23,7 +23,7 @@ is g c =
     (finishes (pairs_seen g.D.Disk.seen) (world_seen c.args.world) (world_seen c.push_files-pushed.new.world) c.requires.fits.0 c.push_files-pushed.result c.fill_if_pushed-fault.new.files
     c.as_mut_slice.result.now c.fill_if_pushed-fault.new.disks c.fill_if_pushed-fault.result (whole-seen g.D.Disk.seen g.met.D.Disk.has_blocks c.fill_if_pushed-fault.new.disks)
     c.requires.fits.1 (c.push_files-pushed.ensures.pushes c.requires.fits.0 c.requires.fits.1) (ap (pairs_seen g.D.Disk.seen) c.as_mut_slice.ensures.value ∙ c.into_disks-disks.ensures.disks)
-    c.push_files-pushed.ensures.stored c.push_files-pushed.ensures.goes c.push_files-pushed.ensures.fault c.fill_if_pushed-fault.ensures.writes c.fill_if_pushed-fault.ensures.fills c.fill_if_pushed-fault.ensures.fault)
+    c.push_files-pushed.ensures.stored c.push_files-pushed.ensures.goes c.push_files-pushed.ensures.fault c.fill_if_pushed-fault.ensures.writes c.fill_if_pushed-fault.ensures.fills c.fill_if_pushed-fault.ensures.goes c.fill_if_pushed-fault.ensures.fault)
 
 pub into_disks-disks-requires : goal.into_disks-disks-requires
 into_disks-disks-requires g c = still (world_seen c.push_files-pushed.new.world) (c.push_files-pushed.ensures.pushes c.requires.fits.0 c.requires.fits.1).notes
@@ -47,6 +47,9 @@ returns-clause-fault g c = (is g (goal.at.returns-clause-fault g c).After-fill_i
 
 pub returns-clause-left : goal.returns-clause-left
 returns-clause-left g c = (is g (goal.at.returns-clause-left g c).After-fill_if_pushed-fault).left
+
+pub returns-clause-written : goal.returns-clause-written
+returns-clause-written g c = (is g (goal.at.returns-clause-written g c).After-fill_if_pushed-fault).written
 
 pub returns-clause-disks : goal.returns-clause-disks
 returns-clause-disks g c = (is g (goal.at.returns-clause-disks g c).After-fill_if_pushed-fault).disks

@@ -2,11 +2,16 @@ use Rattle.std.proofs.Common.{◌≡◌, None, sym, ap, ◌∙◌, subst}
 use Rattle.std.specs.Prelude.{IfNone, IfSome, option_map}
 use Rattle.fault_entry.specs.page_store.Bays.{bay_at, home_faults, pairs_seen}
 use Rattle.fault_entry.specs.page_store.Notes.{no_notes}
+use Rattle.fault_entry.specs.flat_model.Flat.{Flat}
 use Rattle.fault_entry.specs.vm_world.MemoryFits.{MemoryFits}
 use Rattle.fault_entry.specs.vm_world.NotesFit.{NotesFit}
+use Rattle.fault_entry.specs.vm_world.Opening.{no_seats}
 use Rattle.fault_entry.specs.vm_world.State.{KernelState, Seats, notes_of}
+use Rattle.fault_entry.specs.vm_world.StateFits.{StateFits}
 use Rattle.fault_entry.specs.vm_world.World.{World, AllTell}
 use Rattle.vm_core.specs.Finish.{disks_of, HoldAllFiles, LeaveAllPages}
+use Rattle.vm_core.specs.LeftMarks.{LeavesMarks}
+use Rattle.vm_core.proofs.LeftMarks.{marks-left}
 use Rattle.vm_core.proofs.state.VmState.finish.Goals as goal
 
 -- no seat's note, where no seat has anything outside
@@ -32,3 +37,9 @@ pub returns-clause-left : goal.returns-clause-left
 returns-clause-left g c =
     subst (λ (s : KernelState). IfSome c.finish_world.result.fault (λ fault. AllTell s.memory.world no_notes → LeaveAllPages s.memory.world (disks_of s.memory.world) (pairs_seen g.D.Disk.seen c.finish_world.result.disks.items) fault.disk))
     c.self.view_is c.finish_world.ensures.left
+
+pub returns-clause-marks : goal.returns-clause-marks
+returns-clause-marks g c =
+    subst (λ (s : KernelState). (opening : Flat) → StateFits opening s no_seats → AllTell s.memory.world no_notes → LeavesMarks opening s (pairs_seen g.D.Disk.seen c.finish_world.result.disks.items) c.finish_world.result.fault) c.self.view_is
+    (λ opening fit tell. marks-left opening _ fit (pairs_seen g.D.Disk.seen c.finish_world.result.disks.items) c.finish_world.result.fault tell
+    c.finish_world.ensures.disks (c.finish_world.ensures.written tell) c.finish_world.ensures.fault c.finish_world.ensures.within)
