@@ -43,6 +43,19 @@ may-still k c m call may goes own hand = record {
   hand = subst (λ (q : ℕ). IsForCall q call m.seat.note) (sym goes.process) hand;
 }
 
+-- A call that has no entry yet.
+pub record Unanswered (c : CallerSeen) (call : Call) (d : CallerSeen) : Type 0 where
+  pub goes : CallerGoesOn c d
+  pub own : d.seat.own ≡ c.seat.own
+  pub hand : IsForCall c.process call d.seat.note
+
+pub unanswered-on : (c m d : CallerSeen) (call : Call) → Unanswered c call m → CallerGoesOn m d → d.seat.own ≡ m.seat.own → IsForCall m.process call d.seat.note → Unanswered c call d
+unanswered-on c m d call u goes own hand = record {
+  goes = goes-both c m d u.goes goes;
+  own = own ∙ u.own;
+  hand = subst (λ (q : ℕ). IsForCall q call d.seat.note) u.goes.process hand;
+}
+
 module _ (c m d : CallerSeen) (call : Call) (first : CallerGoesOn c m) (then' : CallerGoesOn m d) (own : m.seat.own ≡ c.seat.own) where
   -- by the process that they share
   at-mid : m ≡ caller_at m.seat c.process

@@ -18,7 +18,9 @@ use std::alloc::AllocError;
 use std::sync::Wait;
 use vm_core::{Call, Disk};
 
-/// The first half of a turn, with nothing in hand: a try, and the transfer that it needs, which is in hand then.
+/// The first half of a turn, with nothing in hand: a try, and the transfer that it needs, which is in hand then. Not inline, so that
+/// the end of a transfer has no room for its values.
+#[inline(never)]
 fn first_at<D: Disk>(
     lock: &KernelLock<BoxedState<D>>,
     seat: &mut Seat<BoxedState<D>>,

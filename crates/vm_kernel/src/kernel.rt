@@ -144,7 +144,8 @@ impl<D: Disk> VmKernel<D> {
         Quick::Later
     }
 
-    // Turns until there is a reply. Not inline, so that a hit's code has no room for its values.
+    // Turns until there is a reply, and behind each the one try of a load or a store. Not inline, so that a hit's code has no room for
+    // its values.
     #[inline(never)]
     fn call_by_turns<R: Wait>(
         &self,
@@ -165,6 +166,12 @@ impl<D: Disk> VmKernel<D> {
             match self.turn_and_rest(rt, caller, call)? {
                 Turn::Done(reply) => return Ok(reply),
                 Turn::Again(_) => {}
+            }
+            match self.access(caller, call) {
+                Quick::Word(word) => return Ok(Reply::Word(word)),
+                Quick::Stored => return Ok(Reply::Done),
+                Quick::Signal(signal) => return Ok(Reply::Signal(signal)),
+                Quick::Later => {}
             }
         }
         unreachable!()
