@@ -317,6 +317,11 @@ no-note None None is hand = refl
 no-note None (Some n) is hand = absurd hand
 no-note (Some x) o is hand = absurd (cc (is))
 
+pub none-noted : {D : Type 0} (sent : Option (SentFlight D)) (o : Option Sent) → is_some sent ≡ false → InHand sent o → (sent ≡ None) × (o ≡ None)
+none-noted None None is hand = (refl, refl)
+none-noted None (Some n) is hand = absurd hand
+none-noted (Some x) o is hand = absurd (let z : true ≡ false = is in cc (z))
+
 pub note-for : (p : ℕ) (call : Call) (o : Option Sent) → IsNoteFor p call o → (note : Sent) × (o ≡ Some note) × (note.of ≡ Some (p, call))
 note-for p call None for' = absurd for'
 note-for p call (Some note) for' = (note, refl, for')

@@ -117,17 +117,18 @@ impl<D: Disk> BoxedState<D> {
         steps::end_flight(&mut self.state, seat, sent)
     }
 
-    /// One move of a hand of the clock, and the begin of the push that it answers.
-    pub(crate) fn move_hand(&mut self, seat: u32) -> Option<SentFlight<D>>
+    /// One move of a hand of the clock, and the begin of the push that it answers, which is in hand then.
+    pub(crate) fn move_hand(&mut self, seat: u32, sent: &mut Option<SentFlight<D>>)
         requires fits { FitsAt self.old seat None }
         requires seat { seat < length self.old.syncs }
+        requires none { sent.old ≡ None }
         // One event, which makes no entry; a push that is out then is for no call.
-        ensures event { IsEvent seat self.old None self.new (note_of_held result) }
-        ensures ready { AreUnperformed result }
-        ensures of { IsForNone (note_of_held result) }
+        ensures event { IsEvent seat self.old None self.new (note_of_held sent.new) }
+        ensures ready { AreUnperformed sent.new }
+        ensures of { IsForNone (note_of_held sent.new) }
         ensures same { self.new.history ≡ self.old.history }
     {
-        steps::move_hand(&mut self.state, seat)
+        steps::move_hand(&mut self.state, seat, sent);
     }
 
     /// The state.

@@ -151,6 +151,31 @@ fn land<R: Wait, D: Disk>(
     ensures goes { CallerGoesOn (caller_at seat.old process) (caller_at seat.new process) }
     ensures own { seat.new.own ≡ seat.old.own }
 {
+    if sent.is_none() {
+        return;
+    }
+    bring_home(rt, lock, seat, process, sent);
+}
+
+// The same, with something in hand. Not inline, so that a move without a push has no room for a flight.
+#[inline(never)]
+fn bring_home<R: Wait, D: Disk>(
+    rt: &R,
+    lock: &KernelLock<BoxedState<D>>,
+    seat: &mut Seat<BoxedState<D>>,
+    process: u32,
+    sent: &mut Option<SentFlight<D>>,
+)
+    requires seat { IsSeatOf lock.now seat.old }
+    requires idle { IsIdle seat.old process sent.old }
+    requires of { IsForNone seat.old.note }
+    // The caller goes on with nothing in hand, and made no entry.
+    ensures seat { IsSeatOf lock.now seat.new }
+    ensures idle { IsIdle seat.new process sent.new }
+    ensures none { (sent.new ≡ None) × (seat.new.note ≡ None) }
+    ensures goes { CallerGoesOn (caller_at seat.old process) (caller_at seat.new process) }
+    ensures own { seat.new.own ≡ seat.old.own }
+{
     let Some(flight) = sent.take() else {
         return;
     };

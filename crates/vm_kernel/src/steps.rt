@@ -145,19 +145,44 @@ pub(crate) fn end_flight<D: Disk>(
     state.end(seat, flight, lent(&of))
 }
 
-/// One move of a hand of the clock, and the begin of the push that it answers.
-pub(crate) fn move_hand<D: Disk>(state: &mut VmState<D>, seat: u32) -> Option<SentFlight<D>>
+// Begins the push that the clock answers. Not inline, so that a move without one has no room for a flight.
+#[inline(never)]
+fn push_out<D: Disk>(
+    state: &mut VmState<D>,
+    seat: u32,
+    plan: Plan,
+    sent: &mut Option<SentFlight<D>>,
+)
+    requires fits { FitsAt state.old seat None }
+    requires kept { state.old.plan ≡ Some (record { seat = seat; plan = plan; of = None }) }
+    requires none { sent.old ≡ None }
+    // One event, which makes no entry, and the flight is for no call.
+    ensures event { IsEvent seat state.old None state.new (note_of_held sent.new) }
+    ensures ready { AreUnperformed sent.new }
+    ensures of { IsForNone (note_of_held sent.new) }
+    ensures same { state.new.history ≡ state.old.history }
+{
+    *sent = Some(send(state, seat, plan, None));
+}
+
+/// One move of a hand of the clock, and the begin of the push that it answers, which is in hand then.
+pub(crate) fn move_hand<D: Disk>(
+    state: &mut VmState<D>,
+    seat: u32,
+    sent: &mut Option<SentFlight<D>>,
+)
     requires fits { FitsAt state.old seat None }
     requires seat { seat < length state.old.syncs }
+    requires none { sent.old ≡ None }
     // One event, which makes no entry; a push that is out then is for no call.
-    ensures event { IsEvent seat state.old None state.new (note_of_held result) }
-    ensures ready { AreUnperformed result }
-    ensures of { IsForNone (note_of_held result) }
+    ensures event { IsEvent seat state.old None state.new (note_of_held sent.new) }
+    ensures ready { AreUnperformed sent.new }
+    ensures of { IsForNone (note_of_held sent.new) }
     ensures same { state.new.history ≡ state.old.history }
 {
     match state.clock(seat) {
-        Some(plan) => Some(send(state, seat, plan, None)),
-        None => None,
+        Some(plan) => push_out(state, seat, plan, sent),
+        None => {}
     }
 }
 

@@ -126,7 +126,6 @@ pub(crate) fn hand_and_leave<D: Disk>(
     ensures of { IsForNone (note_of_held sent.new) }
 {
     let mut state = state;
-    let flight = state.move_hand(seat.number());
-    lock.leave(seat, state, &flight);
-    *sent = flight;
+    state.move_hand(seat.number(), sent);
+    lock.leave(seat, state, sent);
 }

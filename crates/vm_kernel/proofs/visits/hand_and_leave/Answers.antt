@@ -4,27 +4,28 @@ use Rattle.vm_kernel.specs.Notes.{note_of_held}
 use Rattle.vm_kernel.proofs.Fits.{event-at}
 use Rattle.vm_kernel.proofs.visits.hand_and_leave.Goals as goal
 
-pub move_hand-flight-requires : goal.move_hand-flight-requires
-move_hand-flight-requires g c = record {
+pub move_hand-requires : goal.move_hand-requires
+move_hand-requires g c = record {
   fits = subst (λ k. FitsAt c.args.state k None) (sym c.number.ensures) c.requires.fits;
   seat = subst (λ k. k < length c.args.state.syncs) (sym c.number.ensures) c.requires.seated;
+  none = c.requires.none;
 }
 
 pub leave-requires-clause-moves : goal.leave-requires-clause-moves
 leave-requires-clause-moves g c = (
   c.args.state,
   c.requires.inside.1,
-  event-at c.args.state c.move_hand-flight.new.self c.number.result c.args.seat.now.number None c.args.seat.now.note (note_of_held c.move_hand-flight.result) c.number.ensures
-      c.requires.inside.2 c.move_hand-flight.ensures.event,
+  event-at c.args.state c.move_hand.new.self c.number.result c.args.seat.now.number None c.args.seat.now.note (note_of_held c.move_hand.new.sent) c.number.ensures
+      c.requires.inside.2 c.move_hand.ensures.event,
 )
 
 pub returns-clause-leaves : goal.returns-clause-leaves
 returns-clause-leaves g c = (
-  c.move_hand-flight.new.self,
+  c.move_hand.new.self,
   record {
     new = c.leave.ensures.new;
-    event = event-at c.args.state c.move_hand-flight.new.self c.number.result c.args.seat.now.number None c.args.seat.now.note (note_of_held c.move_hand-flight.result) c.number.ensures
-        c.requires.inside.2 c.move_hand-flight.ensures.event;
+    event = event-at c.args.state c.move_hand.new.self c.number.result c.args.seat.now.number None c.args.seat.now.note (note_of_held c.move_hand.new.sent) c.number.ensures
+        c.requires.inside.2 c.move_hand.ensures.event;
   },
-  c.move_hand-flight.ensures.same,
+  c.move_hand.ensures.same,
 )

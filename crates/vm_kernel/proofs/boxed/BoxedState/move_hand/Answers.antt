@@ -9,4 +9,5 @@ move_hand-requires g c =
     record {
       fits = subst (λ (s : KernelState). FitsAt s c.args.seat None) (sym same) c.requires.fits;
       seat = subst (λ (s : KernelState). c.args.seat < length s.syncs) (sym same) c.requires.seat;
+      none = c.requires.none;
     }
