@@ -21,7 +21,7 @@ use Rattle.vm_kernel.specs.Callers.{SeatSeen, CallerSeen, IsIdle}
 use Rattle.vm_kernel.specs.Notes.{InHand}
 use Rattle.vm_kernel.specs.Since.{seat_of_entry, history_of, IsSinceOpening}
 use Rattle.vm_kernel.specs.Steps.{IsNoteFor, tried_of}
-use Rattle.vm_kernel.specs.Turns.{CallerGoesOn, IsQuick, IsTurn, IsFirstHalf, IsCallDone, LacksMemory, HasMet, HasCauseFor, ShowsError, IsForCall, caller_at, quick_of, turn_of_try, turn_of_end, why_of}
+use Rattle.vm_kernel.specs.Turns.{CallerGoesOn, MovesHands, IsQuick, IsTurn, IsFirstHalf, IsCallDone, LacksMemory, HasMet, HasCauseFor, ShowsError, IsForCall, caller_at, quick_of, turn_of_try, turn_of_end, why_of}
 use Rattle.vm_kernel.specs.Visits.{GoesOut, LeavesTry, LeavesEnd, LeavesHand, Visit}
 use Rattle.vm_kernel.specs.declared.sent.SentFlight.{SentFlight}
 use Rattle.vm_kernel.specs.declared.turn.Turn.{Turn}
@@ -61,7 +61,7 @@ visited opening n c b d s t m added came tries out longer by =
       seen = subst (IsPrefix c.seen) (sym (ap (λ v. v.seen) e ∙ longer)) (prefix_more c.seen s.history added came.holds.1);
       whole = subst (λ (v : SeatSeen). entries_by seat_of_entry v.number v.seen ≡ v.own) (sym e) refl;
       refused = subst (λ (v : SeatSeen). c.refused ≤ v.refused) (sym e) up;
-      leaves = subst (λ (v : SeatSeen). c.leaves < v.leaves) (sym e) (omega arith);
+      leaves = ap (λ v. v.leaves) e;
       emptied = ap (λ v. v.emptied) e;
       last = ap (λ v. v.last_emptied) e;
     }
@@ -88,7 +88,7 @@ module _ (c d : SeatSeen) (t : KernelState) (m : Option Sent) (added : List Entr
     seen = visit.seen;
     own = visit.whole;
     refused = visit.refused;
-    leaves = let lt = visit.leaves in omega (arith, lt);
+    leaves = let is = visit.leaves in omega (arith, is);
     emptied = subst (λ (k : ℕ). c.emptied ≤ k) (sym visit.emptied) (emptied-up c.note m c.emptied);
   }
 
@@ -165,7 +165,7 @@ module _ (opening : KernelState) (n : ℕ) (c b d : SeatSeen) (s : KernelState) 
           visit.own ∙ append-nil c.own,
           for-none p call d.note (visit.noted ∙ none),
           met (caller_at c p) call (caller_at d p) h (record {
-            leaves = visit.leaves;
+            leaves = let is = visit.leaves in omega (arith, is);
             state = t;
             left = visit.state;
             holds = holds;
@@ -357,6 +357,38 @@ module _ (opening : KernelState) (n : ℕ) (c b d : SeatSeen) (s : KernelState) 
     visit = visited opening n c b d s t None [] came in' out (same ∙ sym (append-nil s.history)) (All-nil (λ (e : Entry). seat_of_entry e ≡ c.number));
   }
   landed-comes note (Some r) of (t, out, ends) = absurd (let z : ◌≡◌ {A = Option (ℕ × Call)} None (Some ends.0) = sym of ∙ ends.1 in cc (z))
+
+-- a note that wasn't there isn't emptied
+none-emptied : (n m : Option Sent) (k : ℕ) → n ≡ None → (if empties n m then k + 1 else k) ≡ k
+none-emptied None m k is = refl
+none-emptied (Some x) m k is = absurd (cc (is))
+
+-- one that was is
+one-emptied : (n : Option Sent) (note : Sent) (k : ℕ) → n ≡ Some note → (if empties n None then k + 1 else k) ≡ k + 1
+one-emptied None note k is = absurd (cc (is))
+one-emptied (Some x) note k is = refl
+
+pub stays-home : (c : CallerSeen) → MovesHands c 0 0 c
+stays-home c = record { leaves = omega arith; emptied = omega arith }
+
+pub lands-home : (c d : SeatSeen) (p : ℕ) (note : Sent) → c.note ≡ Some note → ComesHand c d None → MovesHands (caller_at c p) 0 1 (caller_at d p)
+lands-home c d p note noted came = record {
+  leaves = let is = came.visit.leaves in omega (arith, is);
+  emptied = came.visit.emptied ∙ one-emptied c.note note c.emptied noted;
+}
+
+pub moved-once : (c d : SeatSeen) (e : CallerSeen) (p pushes : ℕ) (note : Option Sent) → c.note ≡ None → ComesHand c d note → MovesHands (caller_at d p) 0 pushes e → MovesHands (caller_at c p) 1 pushes e
+moved-once c d e p pushes note none came home =
+    let none' : d.emptied ≡ c.emptied = came.visit.emptied ∙ none-emptied c.note note c.emptied none in record {
+      leaves = let is = came.visit.leaves in let on = home.leaves in omega (arith, is, on);
+      emptied = let on = home.emptied in omega (arith, none', on);
+    }
+
+pub moved-on : (c m d : CallerSeen) (i a b : ℕ) → MovesHands c i a m → MovesHands m 1 b d → MovesHands c (i + 1) (a + b) d
+moved-on c m d i a b first then' = record {
+  leaves = let x = first.leaves in let y = then'.leaves in omega (arith, x, y);
+  emptied = let x = first.emptied in let y = then'.emptied in omega (arith, x, y);
+}
 
 pub in-hand : {D : Type 0} (x : SentFlight D) (o : Option Sent) → InHand (Some x) o → (note : Sent) × (o ≡ Some note) × InHand (Some x) (Some note)
 in-hand x None hand = absurd hand

@@ -1,5 +1,5 @@
 -- What a caller may ask of a turn, and what a turn comes to. Public clauses cite this.
-use Rattle.std.specs.Prelude.{◌≡◌, ◌≢◌, ◌<◌, ◌≤◌, ◌++◌, ◌∷◌, [], ℕ, Bool, Option, Some, None, Result, Ok, Err}
+use Rattle.std.specs.Prelude.{◌≡◌, ◌≢◌, ◌<◌, ◌≤◌, ◌+◌, ◌++◌, ◌∷◌, [], ℕ, Bool, Option, Some, None, Result, Ok, Err}
 use Rattle.std.specs.Bool.{MatchBool}
 use mathlib.Core.List.{IsPrefix}
 use Rattle.vm_core.specs.block_device.Counts.{HasRisen}
@@ -51,6 +51,11 @@ pub record CallerGoesOn (c d : CallerSeen) : Type 0 where
   pub refused : c.seat.refused ≤ d.seat.refused
   pub leaves : c.seat.leaves ≤ d.seat.leaves
   pub emptied : c.seat.emptied ≤ d.seat.emptied
+
+-- So many moves of a hand of the clock were made, and so many pushes that they began came home: the caller left the lock once for each of both.
+pub record MovesHands (c : CallerSeen) (moves pushes : ℕ) (d : CallerSeen) : Type 0 where
+  pub leaves : d.seat.leaves ≡ c.seat.leaves + moves + pushes
+  pub emptied : d.seat.emptied ≡ c.seat.emptied + pushes
 
 -- The caller has seen more, its own entries among it, and nothing else changed.
 pub record HasSeenMore (c d : CallerSeen) : Type 0 where

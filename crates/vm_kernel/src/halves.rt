@@ -1,11 +1,20 @@
 //! The two halves of a turn: a try, with the transfer that it needs, and the end of that transfer.
-ghost use Rattle.std.specs.Prelude.{◌≡◌, ◌<◌, ◌≤◌, ◌+◌, ℕ, Some, None, length, IfOk, OnErr};
+ghost use Rattle.std.specs.Prelude.{◌≡◌, ◌≤◌, ◌+◌, ℕ, Some, None, length, IfOk, OnErr};
 ghost use Rattle.kernel_lock.specs.Seats.{IsSeatOf};
 ghost use Rattle.vm_core.specs.fault_entry.Accesses.{IsAccess};
 ghost use Rattle.vm_core.specs.vm_types.declared.call.Call as calls;
 ghost use Rattle.vm_kernel.specs.Callers.{IsIdle};
 ghost use Rattle.vm_kernel.specs.Steps.{IsNoteFor, IsForNone};
-ghost use Rattle.vm_kernel.specs.Turns.{MayCall, CallerGoesOn, IsQuick, IsTurn, IsFirstHalf, LacksMemory, caller_at};
+ghost use Rattle.vm_kernel.specs.Turns.{
+  MayCall,
+  CallerGoesOn,
+  MovesHands,
+  IsQuick,
+  IsTurn,
+  IsFirstHalf,
+  LacksMemory,
+  caller_at,
+};
 
 use crate::boxed::BoxedState;
 use crate::sent::SentFlight;
@@ -150,6 +159,8 @@ fn land<R: Wait, D: Disk>(
     ensures none { (sent.new ≡ None) × (seat.new.note ≡ None) }
     ensures goes { CallerGoesOn (caller_at seat.old process) (caller_at seat.new process) }
     ensures own { seat.new.own ≡ seat.old.own }
+    ensures home { (pushes : ℕ) × (pushes ≤ 1)
+        × MovesHands (caller_at seat.old process) 0 pushes (caller_at seat.new process) }
 {
     if sent.is_none() {
         return;
@@ -175,6 +186,8 @@ fn bring_home<R: Wait, D: Disk>(
     ensures none { (sent.new ≡ None) × (seat.new.note ≡ None) }
     ensures goes { CallerGoesOn (caller_at seat.old process) (caller_at seat.new process) }
     ensures own { seat.new.own ≡ seat.old.own }
+    ensures home { (pushes : ℕ) × (pushes ≤ 1)
+        × MovesHands (caller_at seat.old process) 0 pushes (caller_at seat.new process) }
 {
     let Some(flight) = sent.take() else {
         return;
@@ -201,7 +214,8 @@ pub(crate) fn move_at<R: Wait, D: Disk>(
     ensures none { (sent.new ≡ None) × (seat.new.note ≡ None) }
     ensures goes { CallerGoesOn (caller_at seat.old process) (caller_at seat.new process) }
     ensures own { seat.new.own ≡ seat.old.own }
-    ensures leaves { seat.old.leaves < seat.new.leaves }
+    ensures moves { (pushes : ℕ) × (pushes ≤ 1)
+        × MovesHands (caller_at seat.old process) 1 pushes (caller_at seat.new process) }
 {
     let state = lock.enter(rt, seat);
     hand_and_leave(lock, seat, state, sent);

@@ -1,8 +1,8 @@
 //! The kernel for threads: one state behind one lock, shared by reference, and callers that are handed to threads by value.
-ghost use Rattle.std.specs.Prelude.{◌≡◌, ◌<◌, ◌≤◌, ◌+◌, None, IfOk, OnErr};
+ghost use Rattle.std.specs.Prelude.{◌≡◌, ◌≤◌, ℕ, None, IfOk, OnErr};
 ghost use mathlib.Core.List.{IsPrefix};
 ghost use Rattle.vm_kernel.specs.Callers.{IsCallerOf};
-ghost use Rattle.vm_kernel.specs.Turns.{MayCall, CallerGoesOn, IsQuick, IsTurn, IsCallDone, LacksMemory, HasSeenMore};
+ghost use Rattle.vm_kernel.specs.Turns.{MayCall, CallerGoesOn, MovesHands, IsQuick, IsTurn, IsCallDone, LacksMemory, HasSeenMore};
 
 use crate::boxed::BoxedState;
 use crate::caller::Caller;
@@ -197,7 +197,7 @@ impl<D: Disk> VmKernel<D> {
         ensures goes { CallerGoesOn caller.old caller.new }
         ensures same { caller.new.seat.own ≡ caller.old.seat.own }
         ensures free { caller.new.seat.note ≡ None }
-        ensures leaves { caller.old.seat.leaves < caller.new.seat.leaves }
+        ensures moves { (pushes : ℕ) × (pushes ≤ 1) × MovesHands caller.old 1 pushes caller.new }
     {
         move_at(
             rt,
@@ -217,8 +217,9 @@ impl<D: Disk> VmKernel<D> {
         ensures goes { CallerGoesOn caller.old caller.new }
         ensures same { caller.new.seat.own ≡ caller.old.seat.own }
         ensures free { caller.new.seat.note ≡ None }
-        // It left the lock once for each move at least.
-        ensures leaves { caller.old.seat.leaves + turns ≤ caller.new.seat.leaves }
+        // It left the lock once for each move, and once for each push that a move began.
+        ensures moves { (pushes : ℕ) × (pushes ≤ turns)
+            × MovesHands caller.old turns pushes caller.new }
     {
         caller.own_law();
         for _turn in 0..turns {

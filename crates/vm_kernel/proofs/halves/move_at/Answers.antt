@@ -1,7 +1,8 @@
 use Rattle.std.proofs.Common.{ℕ, ◌<◌, None, length, sym, subst}
 use Rattle.vm_core.specs.Fits.{FitsAt}
+use Rattle.vm_kernel.specs.Notes.{note_of_held}
 use Rattle.vm_kernel.proofs.Fits.{fits-in, seated-in}
-use Rattle.vm_kernel.proofs.Visited.{no-note, tried-number}
+use Rattle.vm_kernel.proofs.Visited.{hand-comes, moved-once, no-note, tried-number}
 use Rattle.vm_kernel.proofs.halves.move_at.Goals as goal
 
 pub hand_and_leave-requires-clause-fits : goal.hand_and_leave-requires-clause-fits
@@ -16,3 +17,12 @@ hand_and_leave-requires-clause-seated g c =
     let v = c.args.seat.now in
     subst (λ (k : ℕ). k < length c.enter-state.result.syncs) (sym (tried-number v c.enter-state.new.seat c.enter-state.result c.enter-state.ensures.inside))
     (seated-in c.args.lock.now c.args.lock.now.seats v c.enter-state.result c.enter-state.ensures.state c.requires.seats)
+
+pub returns-clause-moves : goal.returns-clause-moves
+returns-clause-moves g c =
+    let v = c.args.seat.now in
+    let note = note_of_held c.hand_and_leave.new.sent in
+    let home = c.land.ensures.home in
+    let came = hand-comes c.args.lock.now.opening c.args.lock.now.seats v c.enter-state.new.seat c.hand_and_leave.new.seat c.enter-state.result c.enter-state.ensures.state c.enter-state.ensures.inside note
+    c.hand_and_leave.ensures.leaves in
+    (home.0, home.1, moved-once v c.hand_and_leave.new.seat _ c.args.process home.0 note (no-note c.args.sent.now v.note c.requires.none c.requires.idle.hand) came home.2)
