@@ -30,7 +30,7 @@ use Rattle.fault_entry.proofs.vm_world.FrameRule.{memory_of}
 use Rattle.fault_entry.proofs.seg_ops.Disks.{lives-on, dirty-exists}
 use Rattle.fault_entry.proofs.seg_ops.Evictions.{unlocked}
 use Rattle.vm_core.specs.Finish.{IsFilePage, bytes_of_page, disk_at, disks_of, HoldsPage, HoldAllFiles, LeaveAllPages, KeepsOtherBlocks, KeepsDisk, KeepDisks, KeepRecords, IsLastFault, HaveNoBlankPage}
-use Rattle.vm_core.specs.Closing.{KeepsBay, PushesPages, StoresPages, IsFaultOfBays, FailsToPush, GoOrStay, GoesOrStays, IsWritten, IsWrittenOrKept, IsSpoiled, WriteAllPages, block_on, no_page, AreDisksOf, page_on_disk, WritesBlanks, FillsPages, ZeroedOrStays, ZeroedOrStay, FailsToFill}
+use Rattle.vm_core.specs.Closing.{KeepsBay, PushesPages, StoresPages, IsFaultOfBays, FailsToPush, GoOrStay, GoesOrStays, HasPageAndZeros, IsWrittenOrKept, IsSpoiled, WriteAllPages, block_on, no_page, AreDisksOf, page_on_disk, WritesBlanks, FillsPages, ZeroedOrStays, ZeroedOrStay, FailsToFill}
 use Rattle.vm_core.proofs.Records.{records-back, records-then, page-kept, disk-kept, block-kept, bytes-kept, lies-back, keeps-disk-refl, keep-disks-then}
 use Rattle.vm_core.proofs.Fills.{block-within, fault-then}
 use Rattle.vm_core.proofs.Pushes.{records-of}
@@ -159,7 +159,7 @@ both-map (Some x) (Some y) P Q then h = then x y h
 written-or-kept : (u v : World) (name : PageName) (old new : List (List ℕ)) → block_on u name ≡ slice_index_or old (block_of_page u.files name.object name.page) [] → block_on v name ≡ slice_index_or new (block_of_page u.files name.object name.page) []
     → GoesOrStays u v name → IsWrittenOrKept u old new name
 written-or-kept u v name old new was is way = elim way [
-  | inl went ↦ inl (subst (IsWritten u name) is went)
+  | inl went ↦ inl (subst (HasPageAndZeros u name) is went)
   | inr stayed ↦ inr (sym is ∙ stayed ∙ was)
 ]
 
@@ -194,7 +194,7 @@ module _ (u v : World) (spaces : Spaces) (p : PushesPages u v spaces) (tell : Al
 
     -- zeros that came to a blank page, which showed zeros
     zeros-written : (e : DiskSeen) (new : List (List ℕ)) → StoresPages u v (λ (m : PageName). Unit {0}) → e.content ≡ Some new → IsTrue (is_blank (vnode_at v.files name.object) name.page)
-        → block_of e.content (block_of_page v.files name.object name.page) ≡ zeros → IsWritten u name (slice_index_or new at-block [])
+        → block_of e.content (block_of_page v.files name.object name.page) ≡ zeros → HasPageAndZeros u name (slice_index_or new at-block [])
     zeros-written e new stores is blank zeroed =
         let D : DiskSeen = disk_in (bay_at v.store.bays (disk_of_file v.files name.object)) in
         let low : in-file ≤ 4096 = omega arith in

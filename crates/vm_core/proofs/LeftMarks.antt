@@ -2,7 +2,7 @@
 use Rattle.std.proofs.Common.{◌≡◌, ◌≢◌, ◌⊎◌, ℕ, ◌<◌, ◌≤◌, true, false, List, [], length, map, Option, Some, None, refl, sym, ap, ◌∙◌, inl, inr, subst, arith}
 use Rattle.std.specs.Prelude.{slice_get, slice_index, slice_index_or, IfSome, IsSomeAnd, option_map, option_and_then}
 use Rattle.std.specs.Option.{option_map_or}
-use Rattle.std.proofs.lemmas.Bool.{cases_eq}
+use Rattle.std.proofs.lemmas.Bool.{cases_eq, cases_lt}
 use Rattle.std.proofs.lemmas.List.{length-map}
 use Rattle.std.proofs.lemmas.Option.{none-some, slice_get-map, slice_get_within}
 use Rattle.fault_entry.specs.block_device.DiskSeen.{DiskSeen}
@@ -43,12 +43,12 @@ use Rattle.fault_entry.specs.vm_world.World.{World, AllTell, file_blocks}
 use Rattle.fault_entry.proofs.vm_world.FlatWhole.{some-inj}
 use Rattle.fault_entry.proofs.vm_world.PageNames.{file-apart, file-there, index-of}
 use Rattle.fault_entry.proofs.vm_world.Places.{end-now, kept-place, kept-there, page-now, places-apart}
-use Rattle.vm_core.specs.Closing.{AreDisksOf, IsSpoiled, IsWritten, IsWrittenOrKept, WriteAllPages}
+use Rattle.vm_core.specs.Closing.{AreDisksOf, IsSpoiled, HasPageAndZeros, IsWrittenOrKept, WriteAllPages}
 use Rattle.vm_core.specs.Finish.{IsFilePage, IsLastFault, IsPageBlock, KeepDisks, KeepsOtherBlocks, bytes_of_page, disk_at, disks_of}
-use Rattle.vm_core.specs.LeftMarks.{IsRowLeft, LeavesMarks, contents_by_number, disk_numbered, faults_by_number}
+use Rattle.vm_core.specs.LeftMarks.{IsRowLeft, LeavesMarks, contents_by_number, disk_by_number, faults_by_number}
 use Rattle.vm_core.proofs.Fills.{kept-page, one-disk}
 use Rattle.vm_core.proofs.Finishes.{are-disks, disk-in-order, home-of, still}
-use Rattle.vm_core.proofs.MarkTables.{AreFound, found-both, found-some, lt-or-not, marks_by_block, row-changed, row-either, row-kept, same-or-not}
+use Rattle.vm_core.proofs.MarkTables.{AreFound, found-both, found-some, marks_by_block, row-changed, row-either, row-kept, same-or-not}
 
 -- The row of a block that a push or zeros came to.
 abbrev row_held : ℕ → MarkRow
@@ -96,7 +96,7 @@ spoiled-unblank j (Some f) spoiled disk block now is k blank = let z : Unsure j 
 
 -- a count that rose by a failure
 rise : (before after : ℕ) → HasRisen before after → before ≤ top_count → after ≤ top_count → (before < after) ⊎ ((before ≡ top_count) × (after ≡ top_count))
-rise before after risen low high = elim (lt-or-not before top_count) [
+rise before after risen low high = elim (cases_lt before top_count) [
   | inl lt ↦ inl (omega (arith, risen, lt))
   | inr top ↦ inr (omega (arith, low, top), omega (arith, low, top, risen, high))
 ]
@@ -130,7 +130,7 @@ module _ (opening : Flat) (s : KernelState) (fit : StateFits opening s no_seats)
   are : AreDisksOf w.files O
   are = are-disks w s.memory.spaces fit.memory fit.notes
 
-  found : (number : ℕ) → AreFound O N number ⊎ ((disk_numbered O number ≡ None) × (disk_numbered N number ≡ None))
+  found : (number : ℕ) → AreFound O N number ⊎ ((disk_by_number O number ≡ None) × (disk_by_number N number ≡ None))
   found = found-both O N keeps.count (λ i lt. (keeps.each i lt).number)
 
   -- a disk that is listed is home
@@ -162,11 +162,11 @@ module _ (opening : Flat) (s : KernelState) (fit : StateFits opening s no_seats)
         (slice_get-map (λ (v : VnodeSeen). v.info) w.files.files name.object ∙ ap (option_map (λ (v : VnodeSeen). v.info)) (file-there w.files name.object place.4))
 
     -- its disk is listed
-    listed : disk_numbered O disk ≢ None
+    listed : disk_by_number O disk ≢ None
     listed = let i = are.there name.object place.4 in found-some O i.0 disk i.1 (i.2 ∙ on-disk)
 
     -- a block that has it up to the file's end, with zeros after it, has it as all entries leave it
-    page-held : (bytes : List ℕ) → name.page < pages_in info.length → IsWritten w name bytes → BlockFits opening H name (row_held (length H)) bytes
+    page-held : (bytes : List ℕ) → name.page < pages_in info.length → HasPageAndZeros w name bytes → BlockFits opening H name (row_held (length H)) bytes
     page-held bytes below has =
         let far = file-apart w.files name.object fit.memory.files place.4 in
         let now : page_there (replay opening H) name ≡ clip (bytes_there (replay opening H) name) (page_value w no_notes name) = page-now s.memory s.born no_notes opening H s.pending history name place.4 far below in
@@ -241,9 +241,9 @@ module _ (opening : Flat) (s : KernelState) (fit : StateFits opening s no_seats)
 
   -- a block that changed is that of a page, so its mark named no entry that wasn't made
   changed-early : (disk block : ℕ) → has disk block ≢ had disk block → entries_in (row-was disk block).mark ≤ length H
-  changed-early disk block changed = elim (lt-or-not (length H) (entries_in (row-was disk block).mark)) [
+  changed-early disk block changed = elim (cases_lt (length H) (entries_in (row-was disk block).mark)) [
     | inl late ↦ absurd (changed (unpaged-same disk block (λ p. let early = marks.early p.name disk block (page-place disk block p) in omega (arith, late, early))))
-    | inr early ↦ omega (arith, early)
+    | inr early ↦ early
   ]
 
   -- THE BLOCK OF A PAGE has what its row says
@@ -270,15 +270,16 @@ module _ (opening : Flat) (s : KernelState) (fit : StateFits opening s no_seats)
 
     -- where it changed, and isn't the one that failed
     changed-held : has disk block ≢ had disk block → ¬ IsThere fault written.0 disk block → BlockFits opening H name (row_held (length H)) (slice_index_or new block [])
-    changed-held changed far = elim (lt-or-not name.page (pages_in (vnode_at w.files name.object).info.length)) [
+    changed-held changed far = elim (cases_lt name.page (pages_in (vnode_at w.files name.object).info.length)) [
       | inl below ↦ elim (pages (record { file = (place name disk block at).4; below = below })) [
         | inl spoiled ↦ absurd (far (lies-there w.files fault written.0 disk block name (on-disk name disk block at) (in-block name disk block at) spoiled))
-        | inr (inl comes) ↦ page-held name disk block at (slice_index_or new block []) below (subst (λ (n : ℕ). IsWritten w name (slice_index_or new n [])) (in-block name disk block at) comes)
+        | inr (inl comes) ↦ page-held name disk block at (slice_index_or new block []) below (subst (λ (n : ℕ). HasPageAndZeros w name (slice_index_or new n [])) (in-block name disk block at) comes)
         | inr (inr same) ↦ absurd (changed (has-new ∙ subst (λ (n : ℕ). slice_index_or new n [] ≡ slice_index_or old n []) (in-block name disk block at) same ∙ sym had-old))
       ]
       | inr past ↦ absurd (changed (unpaged-same disk block (λ p.
           let one = places-apart s.memory s.born no_notes opening H s.pending history fit.memory.files p.name name disk block (page-place disk block p) at in
-          past (subst (λ (n : PageName). n.page < pages_in (vnode_at w.files n.object).info.length) one p.page.below))))
+          let below : name.page < pages_in (vnode_at w.files name.object).info.length = subst (λ (n : PageName). n.page < pages_in (vnode_at w.files n.object).info.length) one p.page.below in
+          omega (arith, past, below))))
     ]
 
     told-fits : BlockFits opening H name (row-now disk block) (slice_index_or new block [])

@@ -1,15 +1,12 @@
 -- Marks whose rows are changed each by its block, and disks that are found by their numbers.
-use Rattle.std.proofs.Common.{◌≡◌, ◌≢◌, ◌⊎◌, ℕ, zero, suc, ◌<◌, ◌+◌, Bool, cond, List, [], ◌∷◌, length, Option, Some, None, refl, sym, ap, ◌∙◌, inl, inr, arith}
+use Rattle.std.proofs.Common.{◌≡◌, ◌≢◌, ◌⊎◌, ℕ, zero, suc, ◌<◌, ◌≤◌, ◌+◌, Bool, cond, List, [], ◌∷◌, length, Option, Some, None, refl, sym, ap, ◌∙◌, inl, inr, arith}
 use Rattle.std.specs.Prelude.{slice_index_or}
-use Rattle.std.proofs.lemmas.Bool.{cases_eq, eq-eqb, ne_eqb}
+use Rattle.std.proofs.lemmas.Bool.{cases_eq, cases_lt, eq-eqb, ne_eqb}
 use Rattle.fault_entry.specs.block_device.DiskSeen.{DiskSeen}
 use Rattle.disk_marks.specs.declared.marks.MarkRow.{MarkRow}
 use Rattle.disk_marks.specs.Marks.{MarksSeen, HasRow, mark_row, unused_row}
 use Rattle.vm_core.specs.Finish.{disk_at}
-use Rattle.vm_core.specs.LeftMarks.{disk_numbered}
-
-pub lt-or-not : (a b : ℕ) → (a < b) ⊎ (¬ (a < b))
-lt-or-not a b = grind arith
+use Rattle.vm_core.specs.LeftMarks.{disk_by_number}
 
 -- BLOCKS are the same, or they aren't
 first-same : (x y : ℕ) (xs ys : List ℕ) → x ∷ xs ≡ y ∷ ys → x ≡ y
@@ -57,10 +54,10 @@ disk-by f k [] d lt = absurd (omega (arith, lt))
 disk-by f k (rows ∷ more) zero lt = let z : k ≡ k + 0 = omega arith in ap (λ (j : ℕ). rows-by (f j) 0 rows) z
 disk-by f k (rows ∷ more) (suc d) lt = disk-by f (suc k) more d (omega (arith, lt)) ∙ (let z : suc k + d ≡ k + suc d = omega arith in ap (λ (j : ℕ). rows-by (f j) 0 (slice_index_or more d [])) z)
 
-past-end : {A : Type 0} (xs : List A) (i : ℕ) (d : A) → ¬ (i < length xs) → slice_index_or xs i d ≡ d
+past-end : {A : Type 0} (xs : List A) (i : ℕ) (d : A) → length xs ≤ i → slice_index_or xs i d ≡ d
 past-end [] i d out = refl
-past-end (x ∷ xs) zero d out = absurd (out (omega arith))
-past-end (x ∷ xs) (suc i) d out = past-end xs i d (λ lt. out (omega (arith, lt)))
+past-end (x ∷ xs) zero d out = absurd (omega (arith, out))
+past-end (x ∷ xs) (suc i) d out = past-end xs i d (omega (arith, out))
 
 -- The marks with such rows.
 abbrev pub marks_by_block : (ℕ → ℕ → MarkRow → MarkRow) → MarksSeen → MarksSeen
@@ -82,30 +79,30 @@ module _ (f : ℕ → ℕ → MarkRow → MarkRow) (m : MarksSeen) (d b : ℕ) w
 
   -- a block that has no row has none then
   pub row-either : HasRow m d b ⊎ ((mark_row m d b ≡ unused_row) × (mark_row (marks_by_block f m) d b ≡ unused_row))
-  row-either = elim (lt-or-not d (length m.rows)) [
-    | inl lt ↦ elim (lt-or-not b (length (slice_index_or m.rows d []))) [
+  row-either = elim (cases_lt d (length m.rows)) [
+    | inl lt ↦ elim (cases_lt b (length (slice_index_or m.rows d []))) [
       | inl has ↦ inl (lt, has)
       | inr out ↦ inr (
         past-end (slice_index_or m.rows d []) b unused_row out,
         ap (λ (rows : List MarkRow). slice_index_or rows b unused_row) (rows-there lt)
-            ∙ past-end (rows-by (f d) 0 (slice_index_or m.rows d [])) b unused_row (λ has. out (let long = length-rows (f d) 0 (slice_index_or m.rows d []) in omega (arith, long, has))),
+            ∙ past-end (rows-by (f d) 0 (slice_index_or m.rows d [])) b unused_row (let long = length-rows (f d) 0 (slice_index_or m.rows d []) in omega (arith, long, out)),
       )
     ]
     | inr out ↦ inr (
       ap (λ (rows : List MarkRow). slice_index_or rows b unused_row) (past-end m.rows d [] out),
-      ap (λ (rows : List MarkRow). slice_index_or rows b unused_row) (past-end (disks-by f 0 m.rows) d [] (λ has. out (let long = length-disks f 0 m.rows in omega (arith, long, has)))),
+      ap (λ (rows : List MarkRow). slice_index_or rows b unused_row) (past-end (disks-by f 0 m.rows) d [] (let long = length-disks f 0 m.rows in omega (arith, long, out))),
     )
   ]
 
 -- DISKS BY THEIR NUMBERS
-found-first : (disk : ℕ × DiskSeen) (more : List (ℕ × DiskSeen)) (number : ℕ) → disk.0 ≡ number → disk_numbered (disk ∷ more) number ≡ Some disk.1
-found-first disk more number is = ap (λ (b : Bool). cond b (Some disk.1) (disk_numbered more number)) (eq-eqb disk.0 number is)
+found-first : (disk : ℕ × DiskSeen) (more : List (ℕ × DiskSeen)) (number : ℕ) → disk.0 ≡ number → disk_by_number (disk ∷ more) number ≡ Some disk.1
+found-first disk more number is = ap (λ (b : Bool). cond b (Some disk.1) (disk_by_number more number)) (eq-eqb disk.0 number is)
 
-found-later : (disk : ℕ × DiskSeen) (more : List (ℕ × DiskSeen)) (number : ℕ) → disk.0 ≢ number → disk_numbered (disk ∷ more) number ≡ disk_numbered more number
-found-later disk more number ne = ap (λ (b : Bool). cond b (Some disk.1) (disk_numbered more number)) (ne_eqb disk.0 number ne)
+found-later : (disk : ℕ × DiskSeen) (more : List (ℕ × DiskSeen)) (number : ℕ) → disk.0 ≢ number → disk_by_number (disk ∷ more) number ≡ disk_by_number more number
+found-later disk more number ne = ap (λ (b : Bool). cond b (Some disk.1) (disk_by_number more number)) (ne_eqb disk.0 number ne)
 
 -- a disk that is listed is found
-pub found-some : (disks : List (ℕ × DiskSeen)) (i number : ℕ) → i < length disks → (disk_at disks i).0 ≡ number → disk_numbered disks number ≢ None
+pub found-some : (disks : List (ℕ × DiskSeen)) (i number : ℕ) → i < length disks → (disk_at disks i).0 ≡ number → disk_by_number disks number ≢ None
 found-some [] i number lt is none = omega (arith, lt)
 found-some (disk ∷ more) zero number lt is none = absurd (let z : ◌≡◌ {A = Option DiskSeen} (Some disk.1) None = sym (found-first disk more number is) ∙ none in cc)
 found-some (disk ∷ more) (suc i) number lt is none = elim (cases_eq disk.0 number) [
@@ -118,11 +115,11 @@ pub record AreFound (O N : List (ℕ × DiskSeen)) (n : ℕ) : Type 0 where
   pub place : ℕ
   pub within : place < length O
   pub number : (disk_at O place).0 ≡ n
-  pub old : disk_numbered O n ≡ Some (disk_at O place).1
-  pub new : disk_numbered N n ≡ Some (disk_at N place).1
+  pub old : disk_by_number O n ≡ Some (disk_at O place).1
+  pub new : disk_by_number N n ≡ Some (disk_at N place).1
 
 pub found-both : (old new : List (ℕ × DiskSeen)) → length new ≡ length old → ((i : ℕ) → i < length old → (disk_at new i).0 ≡ (disk_at old i).0) → (number : ℕ)
-    → AreFound old new number ⊎ ((disk_numbered old number ≡ None) × (disk_numbered new number ≡ None))
+    → AreFound old new number ⊎ ((disk_by_number old number ≡ None) × (disk_by_number new number ≡ None))
 found-both [] [] long same number = inr (refl, refl)
 found-both [] (n ∷ ns) long same number = absurd (omega (arith, long))
 found-both (o ∷ os) [] long same number = absurd (omega (arith, long))

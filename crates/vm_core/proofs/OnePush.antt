@@ -36,7 +36,7 @@ use Rattle.fault_entry.specs.seg_ops.Flights.{BeginsFor}
 use Rattle.fault_entry.specs.seg_ops.Marks.{files_pushed}
 use Rattle.fault_entry.proofs.seg_ops.StillSteps.{value-is}
 use Rattle.vm_core.specs.Finish.{IsFilePage, bytes_of_page, KeepsDisk, KeepRecords}
-use Rattle.vm_core.specs.Closing.{KeepsBay, PushesPages, IsStored, StoresPages, IsFaultOfBays, FailsToPush, GoOrStay, IsWritten, block_on, no_page, page_on_disk}
+use Rattle.vm_core.specs.Closing.{KeepsBay, PushesPages, IsStored, StoresPages, IsFaultOfBays, FailsToPush, GoOrStay, HasPageAndZeros, block_on, no_page, page_on_disk}
 use Rattle.vm_core.proofs.Records.{disk-kept, block-kept, bytes-kept}
 use Rattle.vm_core.proofs.Fills.{with_page_filled, blank-other, blank-now, stored-same, block-now, one-page, other-blocks-written}
 use Rattle.vm_core.proofs.Pushes.{records-of, bay-refl, no-slot, page-exists, page-is, place-is, valid-is}
@@ -250,7 +250,7 @@ module _ (u v w : World) (spaces : Spaces) (name : PageName) (f e : FlightSeen) 
         on-same name ∙ ap (λ (b : BaySeen). block_of (disk_in b).content B) (ap (bay_at w.store.bays) (sym number) ∙ new-bay) ∙ now-block tell
         ∙ ap (λ (k : ℕ). clip k f.bytes) valid
 
-    now-went : AllTell u no_notes → IsWritten u name (block_on w name)
+    now-went : AllTell u no_notes → HasPageAndZeros u name (block_on w name)
     now-went tell =
         let low : n ≤ 4096 = omega arith in
         let twice : clip n (block_on w name) ≡ clip n f.bytes = ap (clip n) (brought tell) ∙ clip-twice n f.bytes low whole in
@@ -260,7 +260,7 @@ module _ (u v w : World) (spaces : Spaces) (name : PageName) (f e : FlightSeen) 
     -- IT BRINGS THE PAGE to its block, and leaves every other block of a page.
     pub push-goes : GoOrStay u w no_page
     push-goes tell other page = elim (is-or-not other name) [
-      | inl same ↦ inr (inl (subst (λ (m : PageName). IsWritten u m (block_on w m)) (sym same) (now-went tell)))
+      | inl same ↦ inr (inl (subst (λ (m : PageName). HasPageAndZeros u m (block_on w m)) (sym same) (now-went tell)))
       | inr ne ↦ inr (inr (other-stays other ne page))
     ]
 

@@ -40,7 +40,7 @@ use Rattle.fault_entry.specs.seg_ops.Steps.{IsUnwritten}
 use Rattle.fault_entry.proofs.seg_ops.Evictions.{clean-page, not-modified}
 use Rattle.fault_entry.proofs.seg_ops.StillSteps.{value-is}
 use Rattle.vm_core.specs.Finish.{IsFilePage, LiesIn, bytes_of_page, KeepRecords}
-use Rattle.vm_core.specs.Closing.{KeepsBay, PushesPages, IsStored, StoresPages, IsFaultOfBays, FailsToPush, GoOrStay, GoesOrStays, IsWritten, block_on, no_page, page_on_disk}
+use Rattle.vm_core.specs.Closing.{KeepsBay, PushesPages, IsStored, StoresPages, IsFaultOfBays, FailsToPush, GoOrStay, GoesOrStays, HasPageAndZeros, block_on, no_page, page_on_disk}
 use Rattle.vm_core.proofs.Records.{page-kept, bytes-kept, lies-back, keeps-disk-refl, keeps-disk-then}
 use Rattle.vm_core.proofs.Fills.{kept-page}
 
@@ -130,7 +130,7 @@ fault-later u v w spaces fault p f =
 pub goes-refl : (w : World) → GoOrStay w w no_page
 goes-refl w tell name page = inr (inr refl)
 
-written-before : (u v : World) (spaces : Spaces) (name : PageName) (block : List ℕ) → PushesPages u v spaces → AllTell u no_notes → IsFilePage u.files name → IsWritten v name block → IsWritten u name block
+written-before : (u v : World) (spaces : Spaces) (name : PageName) (block : List ℕ) → PushesPages u v spaces → AllTell u no_notes → IsFilePage u.files name → HasPageAndZeros v name block → HasPageAndZeros u name block
 written-before u v spaces name block p tell page h =
     let n = bytes-kept u.files v.files (records-of u v p.tables) name in
     record {
@@ -142,7 +142,7 @@ goes-both : (u v w : World) (spaces : Spaces) (name : PageName) → PushesPages 
 goes-both u v w spaces name p tell page first second = elim second [
   | inl went ↦ inl (written-before u v spaces name (block_on w name) p tell page went)
   | inr stayed ↦ elim first [
-    | inl went ↦ inl (subst (IsWritten u name) (sym stayed) went)
+    | inl went ↦ inl (subst (HasPageAndZeros u name) (sym stayed) went)
     | inr still ↦ inr (stayed ∙ still)
   ]
 ]

@@ -62,13 +62,13 @@ abbrev pub block_on : World → PageName → List ℕ
 block_on w name = block_of (disk_in (bay_at w.store.bays (disk_of_file w.files name.object))).content (block_of_page w.files name.object name.page)
 
 -- A block has a page as far as its file goes, with zeros after it.
-pub record IsWritten (w : World) (name : PageName) (block : List ℕ) : Type 0 where
+pub record HasPageAndZeros (w : World) (name : PageName) (block : List ℕ) : Type 0 where
   pub page : clip (bytes_of_page w.files name) block ≡ clip (bytes_of_page w.files name) (page_value w no_notes name)
   pub rest : block ≡ clip (bytes_of_page w.files name) block
 
 -- The block of a page of a file has the page then, with zeros after it, or what it had.
 abbrev pub GoesOrStays : World → World → PageName → Type 0
-GoesOrStays old new name = IsWritten old name (block_on new name) ⊎ (block_on new name ≡ block_on old name)
+GoesOrStays old new name = HasPageAndZeros old name (block_on new name) ⊎ (block_on new name ≡ block_on old name)
 
 -- So has that of each page of a file, these aside.
 abbrev pub GoOrStay : World → World → (PageName → Type 0) → Type 0
@@ -146,7 +146,7 @@ IsSpoiled files fault block name = IsSomeAnd fault (λ f. LiesIn files f.disk bl
 -- The block of a page has the page, with zeros after it, or what it had.
 abbrev pub IsWrittenOrKept : World → List (List ℕ) → List (List ℕ) → PageName → Type 0
 IsWrittenOrKept w was now name =
-    IsWritten w name (slice_index_or now (block_of_page w.files name.object name.page) [])
+    HasPageAndZeros w name (slice_index_or now (block_of_page w.files name.object name.page) [])
     ⊎ (slice_index_or now (block_of_page w.files name.object name.page) [] ≡ slice_index_or was (block_of_page w.files name.object name.page) [])
 
 -- Of a disk that tells: each page of a file that lies there does so, unless it is spoiled.

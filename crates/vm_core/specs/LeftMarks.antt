@@ -13,16 +13,16 @@ use Rattle.mark_laws.specs.Syncs.{entries_in}
 use Rattle.fault_entry.specs.vm_world.State.{KernelState}
 
 -- The disk of a number among these; none where there is no such disk.
-abbrev pub disk_numbered : List (ℕ × DiskSeen) → ℕ → Option DiskSeen
-disk_numbered [] number = None
-disk_numbered (disk ∷ more) number = if disk.0 == number then Some disk.1 else disk_numbered more number
+abbrev pub disk_by_number : List (ℕ × DiskSeen) → ℕ → Option DiskSeen
+disk_by_number [] number = None
+disk_by_number (disk ∷ more) number = if disk.0 == number then Some disk.1 else disk_by_number more number
 
 -- What these disks have, by number, and how many faults they counted.
 abbrev pub contents_by_number : List (ℕ × DiskSeen) → DiskContents
-contents_by_number disks number = option_and_then (λ (disk : DiskSeen). disk.content) (disk_numbered disks number)
+contents_by_number disks number = option_and_then (λ (disk : DiskSeen). disk.content) (disk_by_number disks number)
 
 abbrev pub faults_by_number : List (ℕ × DiskSeen) → ℕ → Option ℕ
-faults_by_number disks number = option_map (λ (disk : DiskSeen). disk.faults) (disk_numbered disks number)
+faults_by_number disks number = option_map (λ (disk : DiskSeen). disk.faults) (disk_by_number disks number)
 
 -- The row of a block as it is left, after so many entries: it stays; or the block has its page as it is then, with zeros after the file's end; or it is the
 -- block of which the transfer failed.
