@@ -7,7 +7,7 @@ use block_device::{
 use std::alloc::{AllocError, Global};
 use std::sync::Wait;
 use std::thread::Threads;
-use vm_run::{JoinedDisk, Outcome, RunFault, run};
+use vm_run::{JoinedDisk, Outcome, RunFault, run, run_alone};
 use vm_types::Entry;
 
 /// The call of each outside that fails; 0 stands for none.
@@ -146,6 +146,22 @@ pub(crate) fn run_over<R: Rack>(
     let mut out = MemSink::new(alloc, 262_144, 5, [fails.sink].to_vec(alloc)?)?;
     let outcome = run(rt, alloc, &words, &mut source, &mut out, rack);
     Ok((outcome, out.into_written()))
+}
+
+/// What a run without threads tells over memory forms: its status and its text; None where the script needs threads.
+pub(crate) fn run_threadless(
+    alloc: Global,
+    words: &str,
+    script: &[u8],
+) -> Result<Option<(u8, Vec<u8>)>, AllocError> {
+    let words = words_of(alloc, words)?;
+    let mut source = MemSource::new(Vec::from_slice(alloc, script)?, 7, Vec::new(alloc));
+    let mut out = MemSink::new(alloc, 262_144, 5, Vec::new(alloc))?;
+    let mut rack = MemRack::new(alloc, Vec::new(alloc), Vec::new(alloc));
+    match run_alone(alloc, &words, &mut source, &mut out, &mut rack) {
+        Ok(outcome) => Ok(Some((outcome.status, out.into_written()))),
+        Err(_) => Ok(None),
+    }
 }
 
 /// Runs a script over memory forms, for these words.

@@ -1,5 +1,5 @@
 -- The kernel of one block, as its one caller sees it: the parts of a call, and the lines.
-use Rattle.std.proofs.Common.{◌≡◌, ◌≢◌, ◌⊎◌, ℕ, ◌+◌, ◌++◌, ◌≤◌, ◌==◌, List, [], ◌∷◌, drop, length, Some, None, refl, sym, ap, ◌∙◌, inl, inr, subst, arith, append-nil}
+use Rattle.std.proofs.Common.{◌≡◌, ◌⊎◌, ℕ, ◌+◌, ◌++◌, ◌≤◌, ◌==◌, List, [], ◌∷◌, drop, length, Some, None, refl, sym, ap, ◌∙◌, inl, inr, subst, arith, append-nil}
 use Rattle.std.proofs.lemmas.List.Elements.{All-append, All-cons, All-nil, filter-append}
 use mathlib.Core.List.{IsPrefix}
 use Rattle.volume_files.specs.vm_types.declared.call.Call.{Call}
@@ -8,7 +8,6 @@ use Rattle.volume_files.specs.vm_types.declared.call.Reply.{Reply}
 use Rattle.volume_files.specs.vm_types.Parts.{next_part, part_bytes, HasRest}
 use Rattle.volume_files.specs.vm_types.WellFormed.{IsWellFormed}
 use Rattle.volume_files.specs.flat_model.Told.{entries_of}
-use Rattle.volume_files.specs.vm_script.declared.plan.PlanAct.{PlanAct}
 use Rattle.volume_files.specs.vm_script.declared.plan.PlanLine.{PlanLine}
 use Rattle.volume_files.specs.vm_script.Counts.{parts}
 use Rattle.volume_files.specs.vm_script.Told.{Spell}

@@ -17,7 +17,7 @@ use Rattle.volume_files.specs.vm_script.Told.{parent_of}
 use Rattle.volume_files.proofs.vm_script.Ranges.{within}
 use Rattle.block_runs.specs.Lines.{IsCallLine}
 use Rattle.block_runs.proofs.NextLines.{tops_up}
-use Rattle.vm_run.specs.Lines.{is_alone, is_plain_act}
+use Rattle.vm_run.specs.Alone.{is_alone, is_plain_act}
 use Rattle.vm_run.specs.Played.{IsPlayable}
 
 -- A LINE that neither forks nor waits

@@ -1,6 +1,6 @@
 -- A run that stops before its trace: the rack, a disk or memory failed, or a rule is broken.
 use Rattle.std.proofs.Common.{◌≡◌, ℕ, List, [], refl, sym, ap, ◌∙◌, subst, arith, inl, inr, map}
-use Rattle.std.specs.Prelude.{MatchOption, Option, Some, None, Ok, option_map}
+use Rattle.std.specs.Prelude.{◌+◌, MatchOption, Option, Some, None, Ok, option_map}
 use Rattle.volume_files.specs.block_device.Counts.{HasRisen}
 use Rattle.volume_files.specs.block_device.DiskSeen.{DiskSeen}
 use Rattle.volume_files.specs.block_device.OpenSeen.{OpenFaultSeen}
@@ -21,7 +21,7 @@ use Rattle.vm_run.specs.Asked.{Given, Asked, WasAsked}
 use Rattle.volume_files.specs.Attached.{StopCause, StopsEarly}
 use Rattle.vm_run.specs.Course.{AskStops}
 use Rattle.vm_run.specs.Ended.{End, stop_end}
-use Rattle.volume_files.specs.Handed.{AreUncounted, HasOpeningCause, IsCountedBy}
+use Rattle.volume_files.specs.Handed.{AreUncounted, HasOpeningCause, IsCountedBy, member_count}
 use Rattle.vm_run.specs.Run.{CaseOf, EndsBare, Outside, wrote_before}
 use Rattle.volume_files.specs.Texts.{Wrote}
 use Rattle.volume_files.proofs.WrittenTexts.{wrote_nothing}
@@ -134,6 +134,10 @@ pub stopped-asking : (st : ℕ) (ft : Option RunFault) (g : Given) (o : Outside)
 stopped-asking st ft g o k before after seen s how is entries counts none last a =
     asked-stop st ft g o (subst (λ (x : SinkSeen). Wrote o.sink_old x []) (before ∙ sym after) (wrote_nothing o.sink_old)) s.history (map seen s.disks.items) (option_map seen s.swap)
     s.ending entries counts (ap (map seen) none) (ap (option_map seen) last) (subst (AskStops g o.source_old o.source_new) (sym is) a)
+
+-- no disk is handed back
+pub bare-back : {D : Type 0} (seen : D → DiskSeen) (s : Stop D) (attached : ℕ) → s.disks.items ≡ [] → s.swap ≡ None → attached ≡ attached + member_count (map seen s.disks.items) (option_map seen s.swap)
+bare-back seen s attached none last = rw (none, last) (let z : member_count [] None ≡ 0 = refl in omega (arith, z))
 
 -- a trace was answered
 module _ (st : ℕ) (ft : Option RunFault) (g : Given) (o : Outside) (H : HistorySeen) (disks : List DiskSeen) (swap : Option DiskSeen)

@@ -1,6 +1,7 @@
 -- A plan that may be played may be played with the numbers of its files.
-use Rattle.std.specs.Prelude.{ℕ, ◌<◌, ◌+◌, ◌^◌, Bool, true, false, List, [], ◌∷◌, length, map, if◌then◌else◌}
-use Rattle.std.proofs.Common.{sym, subst, arith}
+use Rattle.std.specs.Prelude.{ℕ, ◌≡◌, ◌<◌, ◌+◌, ◌^◌, nat_le, ◌&&◌, Bool, true, false, List, [], ◌∷◌, length, map, if◌then◌else◌}
+use Rattle.std.specs.List.{list_all}
+use Rattle.std.proofs.Common.{◌∙◌, ap, refl, sym, subst, arith}
 use Rattle.std.proofs.lemmas.List.{map-append, length-map}
 use Rattle.std.proofs.lemmas.List.Elements.{All-map, All-weaker}
 use Rattle.volume_files.specs.vm_types.declared.call.Call.{Call}
@@ -15,6 +16,7 @@ use Rattle.volume_files.specs.vm_script.Fields.{is_word}
 use Rattle.volume_files.specs.vm_script.FileNames.{place_from, call_with_file, act_with_file, line_with_file, with_files}
 use Rattle.volume_files.specs.vm_script.PlanSeen.{PlanSeen}
 use Rattle.volume_files.specs.vm_script.Sound.{IsSoundAct, IsOfNamedFile}
+use Rattle.vm_run.specs.Alone.{is_alone, is_plain_act}
 use Rattle.vm_run.specs.Played.{IsPlayable}
 
 -- the blocks nest as before
@@ -95,3 +97,19 @@ playable-named names plan few p = record {
     few_blocks = p.sound.few_blocks;
   };
 }
+
+-- a plan that needs no thread needs none with the numbers of its files
+plain-named : (names : List (List ℕ)) (a : PlanAct) → is_plain_act (act_with_file names a) ≡ is_plain_act a
+plain-named names (act.Call c) = refl
+plain-named names (act.Named name c) = refl
+plain-named names (act.Write name file offset bytes) = refl
+plain-named names act.Wait = refl
+
+lines-named : (names : List (List ℕ)) (lines : List PlanLine) → list_all (λ (l : PlanLine). is_plain_act l.act) (map (line_with_file names) lines) ≡ list_all (λ (l : PlanLine). is_plain_act l.act) lines
+lines-named names [] = refl
+lines-named names (l ∷ lines) =
+    ap (λ (b : Bool). b && list_all (λ (k : PlanLine). is_plain_act k.act) (map (line_with_file names) lines)) (plain-named names l.act)
+    ∙ ap (λ (b : Bool). is_plain_act l.act && b) (lines-named names lines)
+
+pub alone-named : (names : List (List ℕ)) (plan : PlanSeen) → is_alone (with_files names plan) ≡ is_alone plan
+alone-named names plan = ap (λ (b : Bool). nat_le (length plan.parents) 1 && b) (lines-named names plan.lines)

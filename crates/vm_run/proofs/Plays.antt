@@ -26,7 +26,8 @@ use Rattle.vm_core.specs.vm_world.StateFits.{StateFits}
 use Rattle.block_runs.specs.Conditions.{AreFit}
 use Rattle.block_runs.specs.Rows.{IsOnWay}
 use Rattle.block_runs.proofs.Goings.{top_begins}
-use Rattle.vm_run.specs.Lines.{AreOfOne, alone_caller, alone_kernel, is_alone}
+use Rattle.vm_run.specs.Alone.{is_alone}
+use Rattle.vm_run.specs.Lines.{AreOfOne, alone_caller, alone_kernel}
 use Rattle.vm_run.specs.Played.{HasPlayed, IsStarted, KernelLeaves, IsPlayable, LeftSeen}
 use Rattle.volume_files.specs.Written.{HaveDisks}
 use Rattle.vm_run.proofs.Alone.{alone-is}

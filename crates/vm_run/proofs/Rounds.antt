@@ -1,12 +1,10 @@
 -- A CALL THAT IS ALONE ENDS: each transfer that it needs leaves less to come of it.
 use Rattle.std.proofs.Common.{◌≡◌, ℕ, ◌+◌, ◌≤◌, false, true, length, Some, None, ap, ◌∙◌, inl, inr, subst, arith}
 use Rattle.std.specs.Prelude.{is_some}
-use Rattle.volume_files.specs.flat_model.Flat.{Flat}
 use Rattle.volume_files.specs.vm_types.declared.call.Call.{Call}
 use Rattle.vm_core.specs.Calls.{IsNeeded}
 use Rattle.vm_core.specs.Finish.{FitsStill}
 use Rattle.vm_core.specs.Flights.{error_at_end}
-use Rattle.vm_core.specs.page_store.Flight.{Progress}
 use Rattle.vm_core.specs.page_store.declared.plan.Plan.{Plan}
 use Rattle.vm_core.specs.vm_world.Events.{IsEvent}
 use Rattle.vm_core.specs.vm_world.Opening.{no_seats}

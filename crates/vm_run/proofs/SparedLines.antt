@@ -1,6 +1,6 @@
 -- Blocks that no file keeps for a page were not written as the bytes of the script's files were placed.
-use Rattle.std.proofs.Common.{◌≡◌, ◌⊎◌, ℕ, zero, suc, ◌+◌, ◌<◌, ◌≤◌, ◌-◌, ◌*◌, Bool, true, false, List, [], ◌∷◌, ◌++◌, length, map, Option, Some, None, refl, sym, ap, ◌∙◌, inl, inr, subst, arith, append-nil}
-use Rattle.std.specs.Prelude.{All, IfOk, Ok, Err, Result, drop, nat_le, nat_lt, option_and_then, option_map, slice_get, if◌then◌else◌}
+use Rattle.std.proofs.Common.{◌≡◌, ℕ, zero, suc, ◌+◌, ◌<◌, ◌≤◌, ◌-◌, ◌*◌, Bool, true, false, List, [], ◌∷◌, ◌++◌, length, Option, Some, None, refl, sym, ap, ◌∙◌, inl, inr, subst, arith, append-nil}
+use Rattle.std.specs.Prelude.{IfOk, Ok, Err, Result, drop, nat_le, nat_lt, option_and_then, option_map, slice_get, if◌then◌else◌}
 use Rattle.std.specs.List.{AllByRecursion, list_any, range_with_len, sum_by}
 use Rattle.std.specs.Str.{bytes_eq}
 use Rattle.std.proofs.lemmas.Bool.{cases_lt}
@@ -8,12 +8,10 @@ use Rattle.std.proofs.lemmas.List.{append_assoc}
 use Rattle.std.proofs.lemmas.List.Sums.{sum_by-cons}
 use Rattle.std.proofs.lemmas.List.FromFn.{get_or-range_with_len, length-range_with_len}
 use Rattle.volume_files.proofs.flat_model.Bytes.{All-slice_get}
-use Rattle.std.proofs.lemmas.Option.{none-some, same_Some, slice_get_within, slice_get-get_or}
-use Rattle.vm_core.specs.page_hash.declared.PageName.{PageName}
+use Rattle.std.proofs.lemmas.Option.{none-some, same_Some, slice_get-get_or}
 use Rattle.volume_files.specs.vm_types.Pages.{pages_in}
 use Rattle.volume_files.specs.vm_types.declared.call.Entry.{Entry}
 use Rattle.volume_files.specs.vnode_files.declared.extent.Extent.{Extent}
-use Rattle.volume_files.specs.vnode_files.declared.vnode.FileInfo.{FileInfo}
 use Rattle.volume_files.specs.vnode_files.Files.{FilesSeen}
 use Rattle.volume_files.specs.vnode_files.Vnode.{IsSoundVnode, VnodeSeen, fresh_vnode, page_blocks}
 use Rattle.volume_files.specs.volume_format.Table.{front_block}
@@ -31,7 +29,7 @@ use Rattle.volume_files.specs.vm_script.declared.plan.SetupLine.{SetupLine}
 use Rattle.volume_files.specs.declared.stops.Refusal.{Refusal}
 use Rattle.volume_files.specs.declared.stops.Refusal.TheVariants as refusal
 use Rattle.volume_files.specs.Attached.{ArePlaced, AttachedSeen, HasItsBytes}
-use Rattle.volume_files.specs.Handed.{LiesBeside, SpareBlock, SparesBlock}
+use Rattle.volume_files.specs.Handed.{SpareBlock, SparesBlock}
 use Rattle.volume_files.specs.Opened.{OpenedFile, extents_of_disk, if_few, infos_of, line_files_of, names_of, new_file, opened_flat_file, opening_flat, place_for, with_line_file, with_line_files, with_placed}
 use Rattle.volume_files.proofs.DiskLists.{at-map, to-all}
 use Rattle.volume_files.proofs.LineLemmas.{err-ok, same_Ok}

@@ -10,7 +10,8 @@ use Rattle.volume_files.specs.vm_script.declared.plan.PlanLine.{PlanLine}
 use Rattle.volume_files.specs.vm_script.PlanSeen.{PlanSeen}
 use Rattle.volume_files.specs.vm_script.Told.{Told, ToldFront, Spell, IsOneBlock, own_lines, is_born, is_born_of, parent_of}
 use Rattle.volume_files.proofs.vm_script.OneBlock.{told}
-use Rattle.vm_run.specs.Lines.{AreOfOne, is_plain_act}
+use Rattle.vm_run.specs.Alone.{is_plain_act}
+use Rattle.vm_run.specs.Lines.{AreOfOne}
 use Rattle.vm_run.proofs.BlockLines.{ArePlain, PlaysOne}
 use Rattle.vm_run.proofs.Histories.{all-front}
 

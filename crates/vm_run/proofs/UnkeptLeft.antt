@@ -1,5 +1,5 @@
 -- What disks have in blocks that no file keeps for a page, once the kernel is closed: what they had as it was started.
-use Rattle.std.proofs.Common.{◌≡◌, ℕ, ◌<◌, List, [], length, Option, Some, None, refl, sym, ap, ◌∙◌, subst, arith}
+use Rattle.std.proofs.Common.{◌≡◌, ℕ, ◌<◌, List, length, Option, Some, None, refl, sym, ap, ◌∙◌, subst, arith}
 use Rattle.std.specs.Prelude.{is_some, slice_get}
 use Rattle.volume_files.specs.block_device.DiskSeen.{DiskSeen}
 use Rattle.vm_core.specs.page_store.Bays.{BaySeen, bay_at, block_of, home}

@@ -1,8 +1,9 @@
 -- How far a run has come, between its steps. Inside: no clause of `run` cites this.
-use Rattle.std.specs.Prelude.{ℕ, ◌≡◌, ◌⊎◌, ◌++◌, Bool, false, true, List, [], length, Option, Some, None, Result, Ok, Err, slice_get}
+use Rattle.std.specs.Prelude.{ℕ, ◌≡◌, ◌≤◌, ◌+◌, ◌⊎◌, ◌++◌, Bool, false, true, List, [], length, map, Option, Some, None, option_map, Result, Ok, Err, slice_get}
 use Rattle.volume_files.specs.vm_types.declared.call.Entry.{Entry}
 use Rattle.volume_files.specs.block_device.Counts.{HasRisen}
 use Rattle.volume_files.specs.block_device.DiskSeen.{DiskSeen}
+use Rattle.volume_files.specs.block_device.RackSeen.{RackSeen}
 use Rattle.volume_files.specs.block_device.StreamSeen.{SinkSeen}
 use Rattle.volume_files.specs.block_device.declared.disk_fault.DiskFault.{DiskFault}
 use Rattle.volume_files.specs.vnode_files.Files.{FilesSeen}
@@ -27,9 +28,11 @@ use Rattle.vm_run.specs.Asked.{Given, Asked, FailsToRead, WasAsked}
 use Rattle.volume_files.specs.Attached.{AttachedSeen, ArePlaced, FileDisksTell, bare_disks}
 use Rattle.volume_files.specs.Closed.{SayTables}
 use Rattle.vm_run.specs.Ended.{stop_end}
-use Rattle.volume_files.specs.Opened.{OpenedFile, infos_of, numbered_plan}
-use Rattle.vm_run.specs.Played.{IsPlayable}
-use Rattle.vm_run.specs.Run.{CaseOf, Outside, opening_part, wrote_before}
+use Rattle.vm_core.specs.vm_world.State.{KernelState}
+use Rattle.volume_files.specs.Handed.{AreUncounted, member_count}
+use Rattle.volume_files.specs.Opened.{OpenedFile, infos_of, numbered_plan, opening_flat}
+use Rattle.vm_run.specs.Played.{HasPlayed, IsPlayable, IsStarted}
+use Rattle.vm_run.specs.Run.{CaseOf, NoneFailed, Outside, opening_part, wrote_before}
 use Rattle.volume_files.specs.Texts.{Wrote, WroteFront, WroteOn, WrotePart, IsPageUnread, sections_before, trace_front}
 use Rattle.vm_run.specs.AskedTexts.{files_or_none, middle_text, trace_opening}
 use Rattle.volume_files.specs.Written.{AreFilesBytes, AreOnlyRead, IsCountedSince, WriteTables, WroteTablesTo, disk_fault_counts, disk_sizes, open_fault_counts}
@@ -53,11 +56,45 @@ pub record IsReady (g : Given) (k0 k1 : SinkSeen) (what : Asked) (files : List O
 abbrev pub HasCase : Given → Outside → {D : Type 0} → (D → DiskSeen) → Stop D → Type 0
 HasCase g o seen s = (st : ℕ) (ft : Option RunFault) → CaseOf g o (wrote_before o) (record (stop_end seen s) { status = st; fault = ft }) s.ending
 
+-- A RUN STOPPED, and its last line is to be printed: it ends in the case of its ending; where memory lacked, nobody counted a fault; each disk that was
+-- attached is handed back; and the sink's count didn't fall.
+pub record HasStopped (g : Given) (o : Outside) {D : Type 0} (seen : D → DiskSeen) (s : Stop D) : Type 0 where
+  pub ends : HasCase g o seen s
+  pub hides : s.ending ≡ ending.Memory → NoneFailed o
+  pub back : o.attached_new ≡ o.attached_old + member_count (map seen s.disks.items) (option_map seen s.swap)
+  pub later : o.sink_old.faults ≤ o.sink_new.faults
+
+-- A RUN BEGAN, over a rack and a sink that were r0 and k0 and then r1 and k1: it is ready, of whatever words and source it came, and its kernel was started; no
+-- fault was counted, and each disk that was attached is there.
+pub record RunBegan (r0 r1 : RackSeen) (k0 k1 : SinkSeen) (what : Asked) (files : List OpenedFile) (bytes : ℕ → List ℕ) (a : AttachedSeen) (made : FilesSeen) (plan : PlanSeen) (s : KernelState) : Type 0 where
+  pub ready : (g : Given) → g.holds ≡ r0.holds → WasAsked g (Ok what) → IsReady g k0 k1 what files bytes a made plan
+  pub started : IsStarted plan (opening_flat plan (disk_sizes a.disks) files) a.disks a.swap made s
+  pub numbered : plan ≡ numbered_plan files what.plan
+  pub playable : IsPlayable plan
+  pub uncounted : AreUncounted (bare_disks a.disks) a.swap
+  pub attached : r1.attached ≡ r0.attached + member_count (bare_disks a.disks) a.swap
+  pub rack : r1.faults ≡ r0.faults
+  pub sink : k1.faults ≡ k0.faults
+
+-- Its processes ran, up to another state.
+pub record RunPlayed (r0 r1 : RackSeen) (k0 k1 : SinkSeen) (what : Asked) (files : List OpenedFile) (bytes : ℕ → List ℕ) (a : AttachedSeen) (made : FilesSeen) (plan : PlanSeen) (s t : KernelState) (whole : Bool) : Type 0 where
+  pub begun : RunBegan r0 r1 k0 k1 what files bytes a made plan s
+  pub played : HasPlayed plan s t whole
+
+-- What the outside has seen, once the sink is another.
+abbrev pub with_sink : Outside → SinkSeen → Outside
+with_sink o k = record o { sink_new = k }
+
 -- A plan that was read from a script and keeps the rules that look at it alone.
 pub record IsReadPlan (plan : PlanSeen) : Type 0 where
   pub rules : broken_rule plan ≡ None
   pub playable : IsPlayable plan
   pub spelled : (text : List ℕ) × (plan_of text ≡ Ok plan)
+
+-- What some words and some source asked for, which may be run as far as the plan alone tells.
+pub record MayBeRun (what : Asked) : Type 0 where
+  pub asked : (g : Given) × WasAsked g (Ok what)
+  pub read : IsReadPlan what.plan
 
 -- Why there is nothing to be run: what was asked can't be, or the source failed, or memory lacked.
 abbrev pub AskStops : Given → ℕ → ℕ → Ending → Type 0

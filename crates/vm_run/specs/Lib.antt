@@ -6,6 +6,7 @@ pub mod Run
 pub mod Played
 pub mod Course
 pub mod Reading
+pub mod Alone
 pub mod Lines
 pub mod Transfers
 pub mod Ended

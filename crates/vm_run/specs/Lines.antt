@@ -1,30 +1,15 @@
 -- The lines of a plan of one block, which are made on the kernel itself. Inside: no clause of `run` cites this.
-use Rattle.std.specs.Prelude.{ℕ, ◌≡◌, ◌++◌, nat_le, ◌&&◌, Bool, true, false, List, [], ◌∷◌, length, All, Option, Some, None}
-use Rattle.std.specs.List.{list_all}
+use Rattle.std.specs.Prelude.{ℕ, ◌≡◌, ◌++◌, List, [], ◌∷◌, All, Option, Some, None}
 use Rattle.kernel_lock.specs.Seats.{newcomer}
 use Rattle.volume_files.specs.vm_types.declared.call.Call.{Call}
-use Rattle.volume_files.specs.vm_types.declared.call.Call.TheVariants as call
 use Rattle.volume_files.specs.vm_types.declared.call.Entry.{Entry}
 use Rattle.volume_files.specs.vm_types.declared.call.Reply.{Reply}
 use Rattle.volume_files.specs.flat_model.Told.{entries_of}
-use Rattle.volume_files.specs.vm_script.declared.plan.PlanAct.{PlanAct}
-use Rattle.volume_files.specs.vm_script.declared.plan.PlanAct.TheVariants as act
-use Rattle.volume_files.specs.vm_script.PlanSeen.{PlanSeen}
 use Rattle.vm_core.specs.vm_world.Events.{IsEvent}
 use Rattle.vm_core.specs.vm_world.State.{KernelState, Caller}
 use Rattle.vm_kernel.specs.Callers.{KernelSeen, CallerSeen}
 
--- A line that neither forks nor waits.
-abbrev pub is_plain_act : PlanAct → Bool
-is_plain_act (act.Call (call.Fork child)) = false
-is_plain_act act.Wait = false
-is_plain_act a = true
-
--- One block at most, which neither forks nor waits.
-abbrev pub is_alone : PlanSeen → Bool
-is_alone plan = nat_le (length plan.parents) 1 && list_all (λ l. is_plain_act l.act) plan.lines
-
--- The kernel of such a plan as a block sees it: it is no lock's.
+-- The kernel of a plan of one block as the block sees it: it is no lock's.
 abbrev pub alone_kernel : KernelState → KernelSeen
 alone_kernel s = record {
   lock = record { words = 0; slots = 0; views_name = 0; atom = 0; block = 0; offset = 0; slot_names = [] };

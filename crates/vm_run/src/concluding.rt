@@ -1,8 +1,11 @@
 //! A run's last line is printed.
 ghost use Rattle.std.specs.Prelude.{◌≡◌, ◌≤◌, ◌++◌, [], IsOk, OnOk};
-ghost use Rattle.vm_run.specs.declared.ending.Ending.{Ending};
-ghost use Rattle.vm_run.specs.Ending.{fault_of, last_line_of, opening_fault_line, refusal_line, status_of};
+ghost use Rattle.vm_run.specs.Asked.{Given};
+ghost use Rattle.vm_run.specs.Course.{HasStopped, with_sink};
+ghost use Rattle.vm_run.specs.Ended.{end_of};
+ghost use Rattle.vm_run.specs.Ending.{last_line_of, opening_fault_line, refusal_line};
 ghost use Rattle.vm_run.specs.Reading.{IsConcluded};
+ghost use Rattle.vm_run.specs.Run.{Outside, RunEnds};
 
 use crate::ending::{Ending, Stop};
 use crate::outcome::Outcome;
@@ -61,17 +64,13 @@ fn tell_ending<K: Sink>(alloc: Global, ending: Ending, out: &mut K) -> Ending
     }
 }
 
-/// Prints the last line of a run that stopped, as far as the sink takes it, and hands back its disks.
+/// Prints the last line of a run that stopped, as far as the sink takes it, and hands back its history and its disks.
 ///
 /// Takes memory for the line, and none where there is no line. Time: that of the line.
 pub fn conclude<D: Disk, K: Sink>(alloc: Global, stop: Stop<D>, out: &mut K) -> Outcome<D>
-    ensures ends { (how : Ending) × IsConcluded stop.ending (K.seen out.old) (K.seen out.new) how
-        × (result.status ≡ status_of how) × (result.fault ≡ fault_of how) }
-    // What is handed back.
-    ensures history { result.history ≡ stop.history }
-    ensures disks { result.disks ≡ stop.disks }
-    ensures swap { result.swap ≡ stop.swap }
-    ensures later { (K.seen out.old).faults ≤ (K.seen out.new).faults }
+    // Of whatever was given, and whatever the outside has seen.
+    ensures { (g : Given) (o : Outside) → HasStopped g (with_sink o (K.seen out.old)) D.seen stop
+        → RunEnds g (with_sink o (K.seen out.new)) (end_of D.seen result) }
 {
     let Stop {
         ending,

@@ -2,6 +2,7 @@
 //! written.
 #![tactic(auto)]
 
+mod beginning;
 mod checking;
 mod concluding;
 mod ending;
@@ -16,7 +17,9 @@ mod ready;
 mod reporting;
 mod running;
 mod starting;
+mod threadless;
 
 pub use outcome::{Outcome, RunFault};
-pub use running::run;
+pub use running::{run, run_on_threads};
+pub use threadless::{ReadScript, run_alone};
 pub use volume_files::JoinedDisk;

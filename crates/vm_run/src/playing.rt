@@ -1,15 +1,16 @@
 //! The processes run.
-ghost use Rattle.std.specs.Prelude.{ℕ, ◌≡◌, ◌≤◌, All, List, Option, IsTrue, true, length};
+ghost use Rattle.std.specs.Prelude.{ℕ, ◌≡◌, ◌≤◌, All, List, Option, true, length};
 ghost use Rattle.volume_files.specs.block_device.DiskSeen.{DiskSeen};
 ghost use Rattle.volume_files.specs.flat_model.Flat.{Flat};
-ghost use Rattle.volume_files.specs.vm_script.Told.{Told, ToldFront};
+ghost use Rattle.volume_files.specs.vm_script.PlanSeen.{PlanSeen};
 ghost use Rattle.volume_files.specs.vnode_files.Files.{FilesSeen};
 ghost use Rattle.volume_files.specs.vnode_files.Vnode.{IsSoundVnode};
-ghost use Rattle.vm_run.specs.Lines.{is_alone};
-ghost use Rattle.vm_run.specs.Played.{IsStarted, KernelLeaves, HasPlayed, left_seen, IsPlayable, rooms_from};
+ghost use Rattle.vm_run.specs.Alone.{is_alone};
+ghost use Rattle.vm_core.specs.Finish.{FitsStill};
+ghost use Rattle.vm_core.specs.vm_world.State.{KernelState};
+ghost use Rattle.vm_run.specs.Played.{IsStarted, HasPlayed, KernelLeaves, left_seen, IsPlayable, rooms_from};
 
 use crate::lines::make_lines;
-use crate::reading::is_alone;
 use block_runs::{closed_law, closing_law, run_all};
 use std::alloc::Global;
 use std::sync::Wait;
@@ -37,8 +38,8 @@ fn look_at(files: &Files)
     }
 }
 
-// Makes the lines of one block, on this very thread. False where memory lacked. It waits for nobody, and ends.
-fn play_alone<D: Disk>(state: VmState<D>, plan: &Plan) -> (VmState<D>, bool)
+/// Makes the lines of one block, in the thread that calls. False where memory lacked. It waits for nobody, and ends.
+pub fn play_alone<D: Disk>(state: VmState<D>, plan: &Plan) -> (VmState<D>, bool)
     requires playable { IsPlayable plan.now }
     requires alone { is_alone plan.now ≡ true }
     requires started { (F : Flat) × (disks : List (ℕ × DiskSeen)) × (swap : Option DiskSeen)
@@ -51,8 +52,11 @@ fn play_alone<D: Disk>(state: VmState<D>, plan: &Plan) -> (VmState<D>, bool)
     (state, is_whole)
 }
 
-// Runs all blocks, and so many turns of the pageout daemon beside them. False where memory lacked.
-fn play_blocks<R: Threads + Wait + Sync, D: Disk + Send>(
+/// Runs all blocks, each on a thread, and so many turns of the pageout daemon beside them. False where memory lacked: each process
+/// stops before its next line then.
+///
+/// Takes memory for the kernel's lock and for the calls that do. Time: that of the calls.
+pub fn play_blocks<R: Threads + Wait + Sync, D: Disk + Send>(
     rt: &R,
     alloc: Global,
     state: VmState<D>,
@@ -81,55 +85,19 @@ fn play_blocks<R: Threads + Wait + Sync, D: Disk + Send>(
     (kernel.close(row), is_whole)
 }
 
-// Runs the processes, and so many turns of the pageout daemon beside them. False where memory lacked.
-fn play_plan<R: Threads + Wait + Sync, D: Disk + Send>(
-    rt: &R,
-    alloc: Global,
-    state: VmState<D>,
-    rooms: &[Room],
-    plan: &Plan,
-    turns: u32,
-) -> (VmState<D>, bool)
-    requires playable { IsPlayable plan.now }
-    requires started { (F : Flat) × (disks : List (ℕ × DiskSeen)) × (swap : Option DiskSeen)
-        × (files : FilesSeen) × IsStarted plan.now F disks swap files state }
-    requires rooms { rooms.now ≡ rooms_from 0 state.entries }
-    ensures { HasPlayed plan.now state result.0 result.1 }
-{
-    if turns == 0 && is_alone(plan) {
-        play_alone(state, plan)
-    } else {
-        play_blocks(rt, alloc, state, rooms, plan, turns)
-    }
-}
-
-/// Runs the processes, and so many turns of the pageout daemon beside them, and closes the kernel. Where memory lacks, each process
-/// stops before its next line.
+/// Closes a kernel whose processes ran.
 ///
-/// One block that neither forks nor waits starts no thread where the daemon makes no turn. Takes memory for the kernel's lock and for
-/// the calls that do. Time: that of the calls, and of the pages that are modified at the end.
-pub fn play<R: Threads + Wait + Sync, D: Disk + Send>(
-    rt: &R,
-    alloc: Global,
-    state: VmState<D>,
-    rooms: &[Room],
-    plan: &Plan,
-    turns: u32,
-) -> Played<D>
-    requires playable { IsPlayable plan.now }
-    requires started { (F : Flat) × (disks : List (ℕ × DiskSeen)) × (swap : Option DiskSeen)
-        × (files : FilesSeen) × IsStarted plan.now F disks swap files state }
-    requires rooms { rooms.now ≡ rooms_from 0 state.entries }
-    // All lines were made, once and in order; or a front of them.
-    ensures whole { IsTrue result.is_whole → Told plan.now result.finished.history.entries }
-    ensures front { ToldFront plan.now result.finished.history.entries }
-    // What the kernel leaves, from whatever flat memory it was started with.
-    ensures left { (F : Flat) (disks : List (ℕ × DiskSeen)) (swap : Option DiskSeen)
-        (files : FilesSeen)
-        → IsStarted plan.now F disks swap files state
-        → KernelLeaves F state (left_seen D.seen result.finished) }
+/// Time: that of the pages that are modified.
+pub fn close_kernel<D: Disk>(state: VmState<D>, is_whole: bool) -> Played<D>
+    requires still { FitsStill state }
+    // What it leaves, whatever plan was played on it, from whatever flat memory it was started with.
+    ensures left { (plan : PlanSeen) (F : Flat) (disks : List (ℕ × DiskSeen))
+        (swap : Option DiskSeen) (files : FilesSeen) (start : KernelState)
+        → IsStarted plan F disks swap files start → HasPlayed plan start state is_whole
+        → KernelLeaves F start (left_seen D.seen result.finished) }
+    ensures history { result.finished.history.entries ≡ state.history }
+    ensures whole { result.is_whole ≡ is_whole }
 {
-    let (state, is_whole) = play_plan(rt, alloc, state, rooms, plan, turns);
     let finished = state.finish();
     look_at(&finished.files);
     Played { finished, is_whole }

@@ -4,7 +4,7 @@ ghost use Rattle.std.specs.List.{list_all};
 ghost use Rattle.volume_files.specs.block_device.declared.rack.Spec.{Spec};
 ghost use Rattle.volume_files.specs.vm_script.Plans.{plan_of};
 ghost use Rattle.vm_run.specs.Course.{AskEnds};
-ghost use Rattle.vm_run.specs.Lines as alone;
+ghost use Rattle.vm_run.specs.Alone as alone;
 ghost use Rattle.vm_run.specs.Reading.{IsAnswer, IsSpelled, SaysScript, ScriptStops, SourceStops, TakesPlan, TextStops, UnlessUnread};
 
 use crate::checking::check_source;
@@ -39,11 +39,20 @@ fn are_plain(lines: &[PlanLine]) -> bool
     lines.iter().all(|l| is_plain_act(&l.act))
 }
 
-/// Whether the plan has one block at most, which neither forks nor waits. The time is that of the lines.
-pub fn is_alone(plan: &Plan) -> bool
+// Whether the plan has one block at most, which neither forks nor waits. The time is that of the lines.
+fn is_alone(plan: &Plan) -> bool
     ensures { result ≡ alone.is_alone plan.now }
 {
     plan.parents().len() <= 1 && are_plain(plan.lines())
+}
+
+/// Whether a plan that was asked for needs no thread: it has one block at most, which neither forks nor waits, and no turn of the
+/// pageout daemon is asked for. The time is that of the lines.
+pub fn needs_no_thread(options: &Options, plan: &Plan) -> bool
+    ensures { result ≡ alone.needs_no_thread
+        (record { options = options.now; plan = plan.now }) }
+{
+    options.pageout == 0 && is_alone(plan)
 }
 
 // The bytes of the source, or a front of them that is too long for a script.

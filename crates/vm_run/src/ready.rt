@@ -15,9 +15,7 @@ ghost use Rattle.std.specs.Prelude.{Ok, None, [], length, option_map, vec_capaci
 ghost use Rattle.volume_files.specs.vm_script.Rules.{broken_rule};
 ghost use Rattle.volume_files.specs.Written.{AreOnlyRead};
 
-use crate::checking::tell_answer;
 use crate::ending::{Ending, Stop, stop_unopened};
-use crate::reading::{Request, ask};
 use command_line::Options;
 use std::alloc::Global;
 use vm_core::KernelHistory;
@@ -35,8 +33,8 @@ pub struct Ready<D: Disk> {
     pub placed: Placed<D>,
 }
 
-// A run that stopped before a disk was attached.
-fn bare_stop<D: Disk>(alloc: Global, ending: Ending) -> Stop<D>
+/// A run that stopped before a disk was attached.
+pub fn bare_stop<D: Disk>(alloc: Global, ending: Ending) -> Stop<D>
     ensures ending { result.ending ≡ ending }
     ensures entries { result.history.entries ≡ [] }
     ensures counts { result.history.faults ≡ [] }
@@ -129,56 +127,8 @@ fn traced<D: Disk, K: Sink>(
     }
 }
 
-/// Reads what is asked, attaches the disks, places the files, and writes the opening part of the trace.
-pub fn make_ready<S: Source, K: Sink, R: Rack>(
-    alloc: Global,
-    words: &[String],
-    script: &mut S,
-    out: &mut K,
-    rack: &mut R,
-) -> Result<Ready<JoinedDisk<R::D>>, Stop<JoinedDisk<R::D>>>
-    ensures ok { IfOk result (λ r. (what : Asked) × (files : List OpenedFile) × (bytes : ℕ → List ℕ)
-        × (what.options ≡ r.options) × IsReady
-        (given_of (map string_bytes words.now) (S.seen script.old) (R.seen rack.old))
-        (K.seen out.old) (K.seen out.new) what files bytes
-        (attached_seen (joined_seen R.D.seen) r.placed.attached) r.placed.files r.plan) }
-    ensures rooms { IfOk result (λ r. HasRooms r.placed.attached) }
-    ensures err { IfErr result (HasCase
-        (given_of (map string_bytes words.now) (S.seen script.old) (R.seen rack.old))
-        (outside_of (S.seen script.old) (S.seen script.new)
-        (R.seen rack.old) (R.seen rack.new) (K.seen out.old) (K.seen out.new))
-        (joined_seen R.D.seen)) }
-    // Each disk that the rack attached is there, or is handed back.
-    ensures kept { IfOk result (λ r. (R.seen rack.new).attached ≡ (R.seen rack.old).attached
-        + member_count (bare_disks (attached_seen (joined_seen R.D.seen) r.placed.attached).disks)
-        (attached_seen (joined_seen R.D.seen) r.placed.attached).swap) }
-    ensures back { IfErr result (λ s. (R.seen rack.new).attached ≡ (R.seen rack.old).attached
-        + member_count (map (joined_seen R.D.seen) s.disks.items)
-        (option_map (joined_seen R.D.seen) s.swap)) }
-    // Where it is ready, or memory lacked, none counted a fault.
-    ensures served { IfOk result (λ _. NoneFailed
-        (outside_of (S.seen script.old) (S.seen script.new)
-        (R.seen rack.old) (R.seen rack.new) (K.seen out.old) (K.seen out.new))) }
-    ensures uncounted { IfOk result (λ r.
-        AreUncounted (bare_disks (attached_seen (joined_seen R.D.seen) r.placed.attached).disks)
-        (attached_seen (joined_seen R.D.seen) r.placed.attached).swap) }
-    ensures lacks { IfErr result (λ s. s.ending ≡ Memory → NoneFailed
-        (outside_of (S.seen script.old) (S.seen script.new)
-        (R.seen rack.old) (R.seen rack.new) (K.seen out.old) (K.seen out.new))) }
-    // No count falls.
-    ensures source { (S.seen script.old).faults ≤ (S.seen script.new).faults }
-    ensures rack { (R.seen rack.old).faults ≤ (R.seen rack.new).faults }
-    ensures sink { (K.seen out.old).faults ≤ (K.seen out.new).faults }
-{
-    match ask(alloc, words, script) {
-        Ok(Request::Run(options, plan)) => ready_plan(alloc, options, plan, out, rack),
-        Ok(Request::Check(answer)) => Err(bare_stop(alloc, tell_answer(alloc, answer, out))),
-        Err(ending) => Err(bare_stop(alloc, ending)),
-    }
-}
-
-// Attaches the disks of a plan, places its files, and writes the opening part of the trace.
-fn ready_plan<K: Sink, R: Rack>(
+/// Attaches the disks of a plan, places its files, and writes the opening part of the trace.
+pub fn ready_plan<K: Sink, R: Rack>(
     alloc: Global,
     options: Options,
     mut plan: Plan,
@@ -194,6 +144,8 @@ fn ready_plan<K: Sink, R: Rack>(
         → IsReady g (K.seen out.old) (K.seen out.new)
         (record { options = options; plan = plan }) files bytes
         (attached_seen (joined_seen R.D.seen) r.placed.attached) r.placed.files r.plan)) }
+    ensures numbered { IfOk result (λ r. (files : List OpenedFile)
+        × (r.plan ≡ numbered_plan files plan)) }
     ensures rooms { IfOk result (λ r. HasRooms r.placed.attached) }
     ensures err { IfErr result (λ s. (g : Given) (o : Outside)
         → g.holds ≡ (R.seen rack.old).holds

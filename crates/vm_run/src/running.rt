@@ -1,29 +1,24 @@
 //! The top call.
-ghost use Rattle.std.specs.Prelude.{ℕ, ◌≡◌, ◌≤◌, ◌+◌, List, map, option_map, string_bytes};
-ghost use Rattle.volume_files.specs.block_device.StreamSeen.{SinkSeen};
+ghost use Rattle.std.specs.Prelude.{◌≡◌, Ok, map, string_bytes};
+ghost use Rattle.volume_files.specs.block_device.StreamSeen.{SourceSeen};
 ghost use Rattle.volume_files.specs.joined_disk.JoinedSeen.{joined_seen};
-ghost use Rattle.vm_run.specs.Asked.{Given, Asked, given_of};
-ghost use Rattle.volume_files.specs.Attached.{HasRooms, attached_seen, bare_disks};
-ghost use Rattle.vm_run.specs.Course.{HasCase, IsReady};
-ghost use Rattle.volume_files.specs.Opened.{OpenedFile};
-ghost use Rattle.volume_files.specs.Handed.{AreUncounted, member_count};
+ghost use Rattle.vm_run.specs.Asked.{Given, WasAsked, given_of};
+ghost use Rattle.vm_run.specs.Course.{HasStopped, MayBeRun};
 ghost use Rattle.vm_run.specs.Ended.{end_of};
-ghost use Rattle.vm_run.specs.Run.{IsComplete, NoneFailed, Outside, PrintsLegalTrace, RunEnds, outside_of};
-ghost use Rattle.vm_run.specs.declared.ending.Ending.TheVariants.{Memory};
+ghost use Rattle.vm_run.specs.Run.{IsComplete, PrintsLegalTrace, RunEnds, outside_of};
 
+use crate::beginning::{Begun, begin_plan, finish_run};
 use crate::concluding::conclude;
 use crate::ending::Stop;
-use crate::ending_files::end_run;
 use crate::outcome::Outcome;
-use crate::playing::play;
-use crate::ready::{Ready, make_ready};
-use crate::starting::{Started, start};
-use printed_traces::counts_law;
+use crate::playing::play_blocks;
+use crate::threadless::{ReadScript, run_alone};
+use command_line::Options;
 use std::alloc::Global;
 use std::sync::Wait;
 use std::thread::Threads;
 use trace_check::one_answer_law;
-use volume_files::{Disk, JoinedDisk, Rack, Sink, Source};
+use volume_files::{JoinedDisk, Plan, Rack, Sink, Source};
 
 /// Runs a script: its disks are attached, its files placed, its processes run, its files closed, and its report written.
 pub fn run<T: Threads + Wait + Sync, S: Source, K: Sink, R: Rack>(
@@ -54,75 +49,63 @@ pub fn run<T: Threads + Wait + Sync, S: Source, K: Sink, R: Rack>(
         (end_of (joined_seen R.D.seen) result) }
 {
     one_answer_law();
-    let stop = course(rt, alloc, words, script, out, rack);
-    conclude(alloc, stop, out)
-}
-
-// Runs a script up to its last line.
-fn course<T: Threads + Wait + Sync, S: Source, K: Sink, R: Rack>(
-    rt: &T,
-    alloc: Global,
-    words: &[String],
-    script: &mut S,
-    out: &mut K,
-    rack: &mut R,
-) -> Stop<JoinedDisk<R::D>>
-    ensures ends { HasCase
-        (given_of (map string_bytes words.now) (S.seen script.old) (R.seen rack.old))
-        (outside_of (S.seen script.old) (S.seen script.new)
-        (R.seen rack.old) (R.seen rack.new) (K.seen out.old) (K.seen out.new))
-        (joined_seen R.D.seen) result }
-    // Want of memory hides no failure.
-    ensures hides { result.ending ≡ Memory → NoneFailed
-        (outside_of (S.seen script.old) (S.seen script.new)
-        (R.seen rack.old) (R.seen rack.new) (K.seen out.old) (K.seen out.new)) }
-    ensures back { (R.seen rack.new).attached ≡ (R.seen rack.old).attached
-        + member_count (map (joined_seen R.D.seen) result.disks.items)
-        (option_map (joined_seen R.D.seen) result.swap) }
-    ensures sink { (K.seen out.old).faults ≤ (K.seen out.new).faults }
-{
-    match make_ready(alloc, words, script, out, rack) {
-        Ok(ready) => run_ready(rt, alloc, ready, out),
-        Err(stop) => stop,
+    match run_alone(alloc, words, script, out, rack) {
+        Ok(outcome) => outcome,
+        Err(read) => run_on_threads(rt, alloc, read, out, rack),
     }
 }
 
-// Runs the processes of a run that is ready, and ends it.
-fn run_ready<T: Threads + Wait + Sync, D: Disk + Send, K: Sink>(
+/// Runs a script that was read, each block on a thread of its own, and beside them so many turns of the pageout daemon as were
+/// asked for.
+pub fn run_on_threads<T: Threads + Wait + Sync, K: Sink, R: Rack>(
     rt: &T,
     alloc: Global,
-    ready: Ready<D>,
+    read: ReadScript,
     out: &mut K,
-) -> Stop<D>
-    requires ready { (g : Given) × (k0 : SinkSeen) × (what : Asked) × (files : List OpenedFile)
-        × (bytes : ℕ → List ℕ) × IsReady g k0 (K.seen out.old) what files bytes
-        (attached_seen D.seen ready.placed.attached) ready.placed.files ready.plan }
-    requires rooms { HasRooms ready.placed.attached }
-    ensures ends { (g : Given) (o : Outside) (what : Asked) (files : List OpenedFile)
-        (bytes : ℕ → List ℕ) → what.options ≡ ready.options
-        → IsReady g o.sink_old (K.seen out.old) what files bytes
-        (attached_seen D.seen ready.placed.attached) ready.placed.files ready.plan
-        → o.sink_old.faults ≤ (K.seen out.old).faults → o.sink_new ≡ K.seen out.new
-        → AreUncounted (bare_disks (attached_seen D.seen ready.placed.attached).disks)
-        (attached_seen D.seen ready.placed.attached).swap
-        → HasCase g o D.seen result }
-    // Want of memory hides no failure.
-    ensures hides { result.ending ≡ Memory → (K.seen out.new).faults ≡ (K.seen out.old).faults }
-    ensures count { member_count (map D.seen result.disks.items) (option_map D.seen result.swap)
-        ≡ member_count (bare_disks (attached_seen D.seen ready.placed.attached).disks)
-        (attached_seen D.seen ready.placed.attached).swap }
-    ensures sink { (K.seen out.old).faults ≤ (K.seen out.new).faults }
+    rack: &mut R,
+) -> Outcome<JoinedDisk<R::D>>
+    // Of whatever words and source it came, where the source counted no fault.
+    ensures { (g : Given) (before after : SourceSeen) → g.holds ≡ (R.seen rack.old).holds
+        → WasAsked g (Ok read) → after.faults ≡ before.faults
+        → RunEnds g (outside_of before after
+        (R.seen rack.old) (R.seen rack.new) (K.seen out.old) (K.seen out.new))
+        (end_of (joined_seen R.D.seen) result) }
 {
-    let Ready {
-        options,
-        plan,
-        placed,
-    } = ready;
-    match start(alloc, &plan, placed) {
-        Ok(Started { state, rooms, back }) => {
-            let played = play(rt, alloc, state, &rooms, &plan, options.pageout);
-            counts_law(played.finished.history.entries());
-            end_run(alloc, &options, &plan, played, back, out)
+    let ReadScript { options, plan } = read;
+    let stop = run_blocks(rt, alloc, options, plan, out, rack);
+    conclude(alloc, stop, out)
+}
+
+// Runs the blocks of a plan on threads, up to the run's last line.
+fn run_blocks<T: Threads + Wait + Sync, K: Sink, R: Rack>(
+    rt: &T,
+    alloc: Global,
+    options: Options,
+    plan: Plan,
+    out: &mut K,
+    rack: &mut R,
+) -> Stop<JoinedDisk<R::D>>
+    requires may { MayBeRun (record { options = options; plan = plan }) }
+    ensures { (g : Given) (before after : SourceSeen) → g.holds ≡ (R.seen rack.old).holds
+        → WasAsked g (Ok (record { options = options; plan = plan }))
+        → after.faults ≡ before.faults
+        → HasStopped g (outside_of before after
+        (R.seen rack.old) (R.seen rack.new) (K.seen out.old) (K.seen out.new))
+        (joined_seen R.D.seen) result }
+{
+    match begin_plan(alloc, options, plan, out, rack) {
+        Ok(
+            Begun {
+                options,
+                plan,
+                state,
+                rooms,
+                back,
+            },
+        ) => {
+            let turns = options.pageout;
+            let (state, is_whole) = play_blocks(rt, alloc, state, &rooms, &plan, turns);
+            finish_run(alloc, &options, &plan, state, is_whole, back, out)
         }
         Err(stop) => stop,
     }

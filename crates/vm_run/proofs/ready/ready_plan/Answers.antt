@@ -65,6 +65,9 @@ returns-in-Ok-traced-clause-ready g c =
           (numbered-playable c.args.plan c.place.new.plan holds p.0 a made p.1 p.2 c.requires.read.playable) t.2,
     )
 
+pub returns-in-Ok-traced-clause-numbered : goal.returns-in-Ok-traced-clause-numbered
+returns-in-Ok-traced-clause-numbered g c = let p = c.in-Ok-place.ensures.ok (g.R.Rack.seen c.args.rack.now).holds c.in-Ok.ensures.ok in (p.0, p.2)
+
 pub returns-in-Err-traced-clause-err : goal.returns-in-Err-traced-clause-err
 returns-in-Err-traced-clause-err g c = λ given o is asked before after sink0 sink1 st ft.
     let holds = (g.R.Rack.seen c.args.rack.now).holds in

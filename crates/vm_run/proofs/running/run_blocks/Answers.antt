@@ -1,0 +1,42 @@
+use Rattle.std.proofs.Common.{◌∙◌, refl, sym}
+use Rattle.volume_files.specs.Opened.{opening_flat}
+use Rattle.volume_files.specs.Written.{disk_sizes}
+use Rattle.vm_run.proofs.running.run_blocks.Goals as goal
+
+pub play_blocks-state-requires-clause-playable : goal.play_blocks-state-requires-clause-playable
+play_blocks-state-requires-clause-playable g c = λ lifetimes outlives. c.in-Ok.ensures.begun.5.playable
+
+pub play_blocks-state-requires-clause-started : goal.play_blocks-state-requires-clause-started
+play_blocks-state-requires-clause-started g c = λ lifetimes outlives.
+    let b = c.in-Ok.ensures.begun in
+    (opening_flat c.in-Ok.field-0.plan (disk_sizes b.3.disks) b.1, b.3.disks, b.3.swap, b.4, b.5.started)
+
+pub play_blocks-state-requires-clause-rooms : goal.play_blocks-state-requires-clause-rooms
+play_blocks-state-requires-clause-rooms g c = λ lifetimes outlives. c.deref.ensures.value ∙ c.in-Ok.ensures.rooms
+
+pub finish_run-requires-clause-run : goal.finish_run-requires-clause-run
+finish_run-requires-clause-run g c =
+    let b = c.in-Ok.ensures.begun in
+    let asked = c.requires.may.asked in
+    let r0 = g.R.Rack.seen c.args.rack.now in (
+      record asked.0 { holds = r0.holds },
+      r0,
+      g.R.Rack.seen c.begin_plan.new.rack,
+      g.K.Sink.seen c.args.out.now,
+      record { options = c.args.options; plan = c.args.plan },
+      b.1,
+      b.2,
+      b.3,
+      b.4,
+      c.in-Ok.field-0.state,
+      record { begun = b.5; played = c.play_blocks-state.ensures },
+      refl,
+      asked.1,
+      b.6,
+    )
+
+pub returns-in-Ok : goal.returns-in-Ok
+returns-in-Ok g c = λ given before after is asked steady.
+    let b = c.in-Ok.ensures.begun in
+    c.finish_run.ensures given before after (g.R.Rack.seen c.args.rack.now) (g.R.Rack.seen c.begin_plan.new.rack) (g.K.Sink.seen c.args.out.now) (record { options = c.args.options; plan = c.args.plan }) b.1 b.2 b.3 b.4 c.in-Ok.field-0.state
+    (sym b.0) (record { begun = b.5; played = c.play_blocks-state.ensures }) is asked steady

@@ -1,0 +1,157 @@
+//! A run without threads.
+ghost use Rattle.std.specs.Prelude.{◌≡◌, IfErr, IfOk, Ok, false, true, map, string_bytes};
+ghost use Rattle.volume_files.specs.block_device.StreamSeen.{SourceSeen};
+ghost use Rattle.volume_files.specs.joined_disk.JoinedSeen.{joined_seen};
+ghost use Rattle.vm_run.specs.Alone as alone;
+ghost use Rattle.vm_run.specs.Asked.{Given, WasAsked, given_of};
+ghost use Rattle.vm_run.specs.Course.{HasStopped, MayBeRun};
+ghost use Rattle.vm_run.specs.Ended.{end_of};
+ghost use Rattle.vm_run.specs.Run.{IsComplete, PrintsLegalTrace, RunEnds, outside_of};
+
+use crate::beginning::{Begun, begin_plan, finish_run};
+use crate::checking::tell_answer;
+use crate::concluding::conclude;
+use crate::ending::Stop;
+use crate::outcome::Outcome;
+use crate::playing::play_alone;
+use crate::reading::{Request, ask, needs_no_thread};
+use crate::ready::bare_stop;
+use command_line::Options;
+use std::alloc::Global;
+use std::marker::Model;
+use trace_check::one_answer_law;
+use volume_files::{JoinedDisk, Plan, Rack, Sink, Source};
+
+/// A script that was read, with what the words say. Contracts see what was asked.
+#[derive(Drop)]
+pub struct ReadScript {
+    pub(crate) options: Options,
+    pub(crate) plan: Plan,
+}
+
+impl Model for ReadScript {
+    ghost use Rattle.vm_run.specs.Asked.{Asked};
+    ghost use Rattle.vm_run.specs.Course.{MayBeRun};
+
+    ghost Value = { Asked };
+
+    ghost view = { λ r. record { options = r.options; plan = r.plan } };
+
+    ghost invariant = { λ r. MayBeRun (record { options = r.options; plan = r.plan }) };
+}
+
+// Runs a plan of one block in the thread that calls, up to the run's last line.
+fn run_block<K: Sink, R: Rack>(
+    alloc: Global,
+    options: Options,
+    plan: Plan,
+    out: &mut K,
+    rack: &mut R,
+) -> Stop<JoinedDisk<R::D>>
+    requires may { MayBeRun (record { options = options; plan = plan }) }
+    requires alone { alone.is_alone plan ≡ true }
+    ensures { (g : Given) (before after : SourceSeen) → g.holds ≡ (R.seen rack.old).holds
+        → WasAsked g (Ok (record { options = options; plan = plan }))
+        → after.faults ≡ before.faults
+        → HasStopped g (outside_of before after
+        (R.seen rack.old) (R.seen rack.new) (K.seen out.old) (K.seen out.new))
+        (joined_seen R.D.seen) result }
+{
+    match begin_plan(alloc, options, plan, out, rack) {
+        Ok(
+            Begun {
+                options,
+                plan,
+                state,
+                rooms: _,
+                back,
+            },
+        ) => {
+            let (state, is_whole) = play_alone(state, &plan);
+            finish_run(alloc, &options, &plan, state, is_whole, back, out)
+        }
+        Err(stop) => stop,
+    }
+}
+
+// Runs a script up to its last line, where it needs no thread.
+fn course_alone<S: Source, K: Sink, R: Rack>(
+    alloc: Global,
+    words: &[String],
+    script: &mut S,
+    out: &mut K,
+    rack: &mut R,
+) -> Result<Stop<JoinedDisk<R::D>>, ReadScript>
+    ensures stopped { IfOk result (HasStopped
+        (given_of (map string_bytes words.now) (S.seen script.old) (R.seen rack.old))
+        (outside_of (S.seen script.old) (S.seen script.new)
+        (R.seen rack.old) (R.seen rack.new) (K.seen out.old) (K.seen out.new))
+        (joined_seen R.D.seen)) }
+    // A script that needs threads was read, and nothing else was done.
+    ensures asked { IfErr result (λ read. WasAsked
+        (given_of (map string_bytes words.now) (S.seen script.old) (R.seen rack.old))
+        (Ok read)) }
+    ensures threads { IfErr result (λ read. alone.needs_no_thread read ≡ false) }
+    ensures source { IfErr result (λ _.
+        (S.seen script.new).faults ≡ (S.seen script.old).faults) }
+    ensures sink { IfErr result (λ _. K.seen out.new ≡ K.seen out.old) }
+    ensures rack { IfErr result (λ _. R.seen rack.new ≡ R.seen rack.old) }
+{
+    match ask(alloc, words, script) {
+        Ok(Request::Run(options, plan)) => {
+            if needs_no_thread(&options, &plan) {
+                Ok(run_block(alloc, options, plan, out, rack))
+            } else {
+                Err(ReadScript { options, plan })
+            }
+        }
+        Ok(Request::Check(answer)) => Ok(bare_stop(alloc, tell_answer(alloc, answer, out))),
+        Err(ending) => Ok(bare_stop(alloc, ending)),
+    }
+}
+
+/// Runs a script without threads: all of a run, as `run` makes it, where it needs none. It waits for nobody, and ends.
+///
+/// A script needs no thread where it has one block at most, which neither forks nor waits, and no turn of the pageout daemon is
+/// asked for; and where nothing is run, as the words or the script are refused, or a trace is checked. Any other script is handed
+/// back once it was read, for `run_on_threads`.
+pub fn run_alone<S: Source, K: Sink, R: Rack>(
+    alloc: Global,
+    words: &[String],
+    script: &mut S,
+    out: &mut K,
+    rack: &mut R,
+) -> Result<Outcome<JoinedDisk<R::D>>, ReadScript>
+    // The run, of which the same is said as of `run`.
+    ensures ends { IfOk result (λ outcome. RunEnds
+        (given_of (map string_bytes words.now) (S.seen script.old) (R.seen rack.old))
+        (outside_of (S.seen script.old) (S.seen script.new)
+        (R.seen rack.old) (R.seen rack.new) (K.seen out.old) (K.seen out.new))
+        (end_of (joined_seen R.D.seen) outcome)) }
+    ensures complete { IfOk result (λ outcome. IsComplete
+        (given_of (map string_bytes words.now) (S.seen script.old) (R.seen rack.old))
+        (outside_of (S.seen script.old) (S.seen script.new)
+        (R.seen rack.old) (R.seen rack.new) (K.seen out.old) (K.seen out.new))
+        (end_of (joined_seen R.D.seen) outcome)) }
+    ensures traced { IfOk result (λ outcome. PrintsLegalTrace
+        (given_of (map string_bytes words.now) (S.seen script.old) (R.seen rack.old))
+        (outside_of (S.seen script.old) (S.seen script.new)
+        (R.seen rack.old) (R.seen rack.new) (K.seen out.old) (K.seen out.new))
+        (end_of (joined_seen R.D.seen) outcome)) }
+
+    // A script that was asked for and needs threads. It was read, and nothing else was done.
+    ensures asked { IfErr result (λ read. WasAsked
+        (given_of (map string_bytes words.now) (S.seen script.old) (R.seen rack.old))
+        (Ok read)) }
+    ensures threads { IfErr result (λ read. alone.needs_no_thread read ≡ false) }
+    ensures source { IfErr result (λ _.
+        (S.seen script.new).faults ≡ (S.seen script.old).faults) }
+    ensures sink { IfErr result (λ _. K.seen out.new ≡ K.seen out.old) }
+    ensures rack { IfErr result (λ _. R.seen rack.new ≡ R.seen rack.old) }
+{
+    one_answer_law();
+    match course_alone(alloc, words, script, out, rack) {
+        Ok(stop) => Ok(conclude(alloc, stop, out)),
+        Err(read) => Err(read),
+    }
+}
