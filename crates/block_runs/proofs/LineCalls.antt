@@ -1,6 +1,6 @@
 -- The calls of lines.
 use Rattle.std.proofs.Common.{◌≡◌, ◌≢◌, ℕ, ◌+◌, ◌≤◌, ◌<◌, ◌^◌, ◌∙◌, List, [], ◌∷◌, ◌++◌, length, refl, sym, ap, subst, inl, arith, append-nil, ◌⊎◌, inr, None}
-use Rattle.std.specs.Prelude.{drop, Result, Ok, Err, OnOk}
+use Rattle.std.specs.Prelude.{drop, Result, Ok, Err, OnErr, OnOk}
 use Rattle.std.proofs.lemmas.List.{length-take}
 use Rattle.vm_script.specs.vm_types.declared.call.Call.{Call}
 use Rattle.vm_script.specs.vm_types.declared.call.Call.TheVariants as call
@@ -113,6 +113,11 @@ no_part call.Exit none = refl
 pub ok_made : {A E : Type 0} (P Q : Type 0) (r : Result A E) → (P → Q) → OnOk r P → OnOk r Q
 ok_made P Q (Ok a) f h = f h
 ok_made P Q (Err e) f h = h
+
+-- And where memory lacks.
+pub err_kept : {A E : Type 0} (P Q : Type 0) (r : Result A E) → (P → Q) → OnErr r P → OnErr r Q
+err_kept P Q (Ok a) f h = h
+err_kept P Q (Err e) f h = f h
 
 module _ (kernel : KernelSeen) (v : CallerSeen) (l : PlanLine) (s : SpelledLine) (one : OneCall l.act s) where
   pub line_may : MayMakeLine kernel v l → MayMakeParts kernel v s.call s.bytes

@@ -150,6 +150,7 @@ pub record PartsMade (k : KernelSeen) (v0 v : CallerSeen) (c0 : Call) (b0 : List
   pub fills : FillsLine c
   pub line : IsCallLine (act.Call c)
   pub part : (es ≡ []) ⊎ (TakesMemory c → ⊥)
+  pub takes : TakesMemory c → TakesMemory c0
   pub alive : IsKnownAlive (tree k) v.seat.seen (entries_of v.seat.seen v.process) v.process
   pub room : length (entries_of v.seat.seen v.process) + call_parts c ≤ room_of (rooms k) v.process
   pub follows : (reply : Reply) (cleared : ℕ) → MayFollow (entries_of v.seat.seen v.process) (done_entry v.process c reply cleared)
@@ -166,6 +167,7 @@ parts_start k v c b caller may = record {
   fills = may.fills;
   line = may.line;
   part = inl refl;
+  takes = λ t. t;
   alive = may.alive;
   room = may.room;
   follows = λ reply cleared. follows_any v.process (entries_of v.seat.seen v.process) (done_entry v.process c reply cleared) refl may.ends;
@@ -242,6 +244,7 @@ module _ (k : KernelSeen) (v0 v w : CallerSeen) (c0 : Call) (b0 : List ℕ) (c :
     fills = goes.fills;
     line = part_line next goes.part;
     part = inr goes.takes;
+    takes = λ t. absurd (goes.takes t);
     alive = alive-w;
     room = subst (λ (q : ℕ). length (entries_of w.seat.seen w.process) + call_parts next ≤ room_of (rooms k) q) (sym one.more.process) (let less = goes.less in let room = made.room in let count = count-w in omega (arith, less, room, count));
     follows = last-w;

@@ -6,6 +6,7 @@ use Rattle.vm_script.specs.declared.plan.PlanAct.TheVariants as act
 use Rattle.vm_script.specs.declared.plan.PlanLine.{PlanLine}
 use Rattle.vm_script.specs.Told.{parent_of}
 use Rattle.vm_script.specs.Blocks.{IsProcessBlock}
+use Rattle.vm_core.specs.Calls.{TakesMemory}
 use Rattle.block_runs.specs.declared.lines.Step.{Step}
 use Rattle.block_runs.specs.declared.lines.Step.TheVariants as step
 
@@ -66,6 +67,12 @@ abbrev pub NamesFile : PlanAct → Type 0
 NamesFile (act.Call call) = ⊥
 NamesFile act.Wait = ⊥
 NamesFile a = Unit {0}
+
+-- A line of a call that takes memory.
+abbrev pub LineTakesMemory : PlanAct → Type 0
+LineTakesMemory (act.Call call) = TakesMemory call
+LineTakesMemory (act.Named name call) = TakesMemory call
+LineTakesMemory a = ⊥
 
 abbrev pub step_of : PlanAct → Step
 step_of act.Wait = step.Wait

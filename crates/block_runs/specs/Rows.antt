@@ -14,7 +14,7 @@ use Rattle.block_runs.specs.declared.blocks.Stretch.{Stretch}
 use Rattle.block_runs.specs.Callers.{tree, IsCaller, SeesMore}
 use Rattle.block_runs.specs.Running.{HasRun, RunsOn}
 use Rattle.block_runs.specs.Conditions.{AreFit, MayMakeLines, MayGo}
-use Rattle.block_runs.specs.Lines.{own_of, StandsAt}
+use Rattle.block_runs.specs.Lines.{LineTakesMemory, own_of, StandsAt}
 
 -- The callers of this process and of those behind it, in their order, each between its calls.
 abbrev pub AreNumbered : KernelSeen → ℕ → List CallerSeen → Type 0
@@ -31,6 +31,15 @@ IsFresh v = v.seat.seen ≡ []
 
 abbrev pub AreFresh : List CallerSeen → Type 0
 AreFresh vs = AllByRecursion IsFresh vs
+
+-- The lines were made up to one of a call that takes memory, whose turn it was.
+pub record StopsForMemory (lines : List PlanLine) (entries : List Entry) : Type 0 where
+  pub made : List PlanLine
+  pub line : PlanLine
+  pub left : List PlanLine
+  pub whole : made ++ line ∷ left ≡ lines
+  pub spelled : Spell made entries
+  pub takes : LineTakesMemory line.act
 
 -- The caller's block was begun and is over: it made a front of its lines, and where `whole`, all of them.
 pub record IsOver (seen : ℕ → List Entry) (whole : Bool) (lines : List PlanLine) (v : CallerSeen) : Type 0 where

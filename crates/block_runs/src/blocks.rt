@@ -3,7 +3,7 @@ ghost use Rattle.std.specs.Prelude.{◌≡◌, true, [], ◌∷◌, OnOk, OnErr}
 ghost use denote.Param.Send.{IsSync, IsSend};
 ghost use Rattle.block_runs.specs.Callers.{IsCaller, SeesMore};
 ghost use Rattle.block_runs.specs.Conditions.{MayMakeLine};
-ghost use Rattle.block_runs.specs.Lines.{IsCallLine, NamesFile};
+ghost use Rattle.block_runs.specs.Lines.{IsCallLine, LineTakesMemory, NamesFile};
 ghost use Rattle.block_runs.specs.Rows.{IsBlockReady, IsOnWay, IsChildBorn, IsStretch, BothEnd, BlockEnds, MakesLine};
 
 use crate::calls::Calls;
@@ -192,7 +192,7 @@ fn run_both<R: Threads + Wait + Sync, D: Disk + Send, K: Calls<D> + Sync>(
     }
 }
 
-/// Makes a line that is neither a wait nor a fork. The error is want of memory.
+/// Makes a line that is neither a wait nor a fork. The error is want of memory, at a line of a call that takes some.
 #[inline(always)]
 fn make_line<R: Wait, D: Disk, K: Calls<D>>(
     rt: &R,
@@ -203,9 +203,11 @@ fn make_line<R: Wait, D: Disk, K: Calls<D>>(
     requires caller { IsCaller (K.kernel kernel.now) caller.old }
     requires line { IsCallLine line.now.act }
     requires may { MayMakeLine (K.kernel kernel.now) caller.old line.now }
-    // It is between its calls again, and made just the line's entries; or none.
+    // It is between its calls again, and made just the line's entries.
     ensures caller { IsCaller (K.kernel kernel.now) caller.new }
     ensures made { OnOk result (MakesLine caller.old caller.new line.now) }
+    // Or memory is wanting, and it made none.
+    ensures takes { OnErr result (LineTakesMemory line.now.act) }
     ensures err { OnErr result (SeesMore caller.old caller.new []) }
 {
     match &line.act {
@@ -229,9 +231,11 @@ fn make_named<R: Wait, D: Disk, K: Calls<D>>(
     requires line { IsCallLine line.now.act }
     requires named { NamesFile line.now.act }
     requires may { MayMakeLine (K.kernel kernel.now) caller.old line.now }
-    // It is between its calls again, and made just the line's entries; or none.
+    // It is between its calls again, and made just the line's entries.
     ensures caller { IsCaller (K.kernel kernel.now) caller.new }
     ensures made { OnOk result (MakesLine caller.old caller.new line.now) }
+    // Or memory is wanting, and it made none.
+    ensures takes { OnErr result (LineTakesMemory line.now.act) }
     ensures err { OnErr result (SeesMore caller.old caller.new []) }
 {
     match &line.act {

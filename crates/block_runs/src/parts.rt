@@ -1,6 +1,7 @@
 //! Calls that are made to their end, a read or a write part by part.
 ghost use Rattle.std.specs.Prelude.{◌≡◌, ◌≤◌, ◌<◌, ◌^◌, [], drop, length, OnOk, OnErr};
 ghost use Rattle.vm_script.specs.vm_types.Parts.{first_write, part_bytes};
+ghost use Rattle.vm_core.specs.Calls.{TakesMemory};
 ghost use Rattle.block_runs.specs.Callers.{IsCaller, SeesMore};
 ghost use Rattle.block_runs.specs.Parts.{MakesParts, MayMakeParts};
 
@@ -23,7 +24,7 @@ pub fn bytes_in(call: &Call) -> usize
 }
 
 /// Makes a call to its end, a read or a write part by part. `bytes` are those of a write that are still to come. The error is want
-/// of memory: nothing was made then.
+/// of memory, at a call that takes some: nothing was made then.
 pub(crate) fn make_parts<R: Wait, D: Disk, K: Calls<D>>(
     rt: &R,
     kernel: &K,
@@ -33,8 +34,11 @@ pub(crate) fn make_parts<R: Wait, D: Disk, K: Calls<D>>(
 ) -> Result<(), AllocError>
     requires caller { IsCaller (K.kernel kernel.now) caller.old }
     requires may { MayMakeParts (K.kernel kernel.now) caller.old call.now bytes.now }
+    // It is between its calls again, and made the call's parts.
     ensures caller { IsCaller (K.kernel kernel.now) caller.new }
     ensures made { OnOk result (MakesParts caller.old caller.new call.now bytes.now) }
+    // Or memory is wanting, and it made none.
+    ensures takes { OnErr result (TakesMemory call.now) }
     ensures err { OnErr result (SeesMore caller.old caller.new []) }
 {
     let mut call = *call;

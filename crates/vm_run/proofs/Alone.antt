@@ -20,11 +20,12 @@ use Rattle.vm_kernel.specs.Callers.{CallerSeen}
 use Rattle.vm_kernel.specs.Turns.{MayCall}
 use Rattle.block_runs.specs.Callers.{IsCaller, HasMade}
 use Rattle.block_runs.specs.Conditions.{MayMakeLine}
-use Rattle.block_runs.specs.Lines.{IsCallLine, own_of}
+use Rattle.block_runs.specs.Lines.{IsCallLine, LineTakesMemory, own_of}
 use Rattle.block_runs.specs.Parts.{MakesParts, MayMakeParts}
-use Rattle.block_runs.specs.Rows.{Agree, IsOnWay, MakesLine}
+use Rattle.block_runs.specs.Rows.{Agree, IsOnWay, MakesLine, StopsForMemory}
 use Rattle.block_runs.proofs.Goings.{may_make}
 use Rattle.block_runs.proofs.Lists.{prefix_refl}
+use Rattle.block_runs.proofs.NextLines.{is_own}
 use Rattle.block_runs.proofs.Parting.{PartsMade, part_may, parts_end, parts_next, parts_start}
 use Rattle.block_runs.proofs.Runs.{runs_nothing}
 use Rattle.block_runs.proofs.Stretching.{GoesOn, at_line, go_line, go_start}
@@ -200,3 +201,16 @@ lines-all s t lines left so-far none =
     let m = alone-front s t lines left so-far in
     let whole : m.made ≡ own_of 1 lines = sym (append-nil m.made) ∙ (ap (λ (ls : List PlanLine). m.made ++ own_of 1 ls) (sym none) ∙ m.front) in
     subst (λ (ls : List PlanLine). Spell ls (entries_of t.history 1)) whole m.own
+
+pub lines-stopped : (s t : KernelState) (lines left behind : List PlanLine) (l : PlanLine) (H : List Entry) → left ≡ l ∷ behind → AloneLines s t lines left → H ≡ t.history → LineTakesMemory l.act → StopsForMemory (own_of 1 lines) (entries_of H 1)
+lines-stopped s t lines left behind l H is so-far same takes =
+    let m = alone-front s t lines left so-far in
+    let own = (at_line s.parents 1 2 2 left behind l so-far.goes.stands is).own in
+    record {
+      made = m.made;
+      line = l;
+      left = own_of 1 behind;
+      whole = ap (λ (ls : List PlanLine). m.made ++ ls) (sym (is_own 1 l behind own)) ∙ (ap (λ (ls : List PlanLine). m.made ++ own_of 1 ls) (sym is) ∙ m.front);
+      spelled = subst (λ (K : List Entry). Spell m.made (entries_of K 1)) (sym same) m.own;
+      takes = takes;
+    }

@@ -4,12 +4,13 @@ ghost use mathlib.Core.List.{IsPrefix};
 ghost use Rattle.volume_files.specs.flat_model.Told.{entries_of};
 ghost use Rattle.volume_files.specs.vm_script.declared.plan.PlanLine.{PlanLine};
 ghost use Rattle.volume_files.specs.vm_script.Told.{Spell};
+ghost use Rattle.vm_core.specs.Calls.{TakesMemory};
 ghost use Rattle.vm_core.specs.Finish.{FitsStill};
 ghost use Rattle.vm_core.specs.vm_world.Events.{IsEvent};
 ghost use Rattle.block_runs.specs.Conditions.{MayMakeLine};
-ghost use Rattle.block_runs.specs.Lines.{IsCallLine, NamesFile, own_of};
+ghost use Rattle.block_runs.specs.Lines.{IsCallLine, LineTakesMemory, NamesFile, own_of};
 ghost use Rattle.block_runs.specs.Parts.{MakesParts, MayMakeParts};
-ghost use Rattle.block_runs.specs.Rows.{IsOnWay, MakesLine};
+ghost use Rattle.block_runs.specs.Rows.{IsOnWay, MakesLine, StopsForMemory};
 ghost use Rattle.vm_run.specs.Lines.{alone_caller, alone_kernel, AreOfOne};
 
 use crate::making::make_call;
@@ -36,6 +37,8 @@ fn make_parts<D: Disk>(
     ensures alone { AreOfOne state.new.history }
     ensures made { OnOk result (MakesParts (alone_caller state.old state.old.history)
         (alone_caller state.old state.new.history) call.now bytes.now) }
+    // Or memory is wanting, at a call that takes some, and none came.
+    ensures takes { OnErr result (TakesMemory call.now) }
     ensures err { OnErr result (state.new.history ≡ state.old.history) }
 {
     let mut call = *call;
@@ -70,6 +73,8 @@ fn make_named<D: Disk>(
     ensures alone { AreOfOne state.new.history }
     ensures made { OnOk result (MakesLine (alone_caller state.old state.old.history)
         (alone_caller state.old state.new.history) line.now) }
+    // Or memory is wanting, at a line of a call that takes some, and none came.
+    ensures takes { OnErr result (LineTakesMemory line.now.act) }
     ensures err { OnErr result (state.new.history ≡ state.old.history) }
 {
     match &line.act {
@@ -104,6 +109,8 @@ fn make_line<D: Disk>(
     ensures alone { AreOfOne state.new.history }
     ensures made { OnOk result (MakesLine (alone_caller state.old state.old.history)
         (alone_caller state.old state.new.history) line.now) }
+    // Or memory is wanting, at a line of a call that takes some, and none came.
+    ensures takes { OnErr result (LineTakesMemory line.now.act) }
     ensures err { OnErr result (state.new.history ≡ state.old.history) }
 {
     match &line.act {
@@ -115,7 +122,8 @@ fn make_line<D: Disk>(
     }
 }
 
-/// Makes the lines of process 1. The error is want of memory: no line behind is made then.
+/// Makes the lines of process 1. The error is want of memory, at a line of a call that takes some: neither it nor a line behind it
+/// is made then.
 pub fn make_lines<D: Disk>(
     state: &mut VmState<D>,
     frames: u32,
@@ -133,6 +141,8 @@ pub fn make_lines<D: Disk>(
     ensures front { (made : List PlanLine) × IsPrefix made (own_of 1 lines.now)
         × Spell made (entries_of state.new.history 1) }
     ensures all { OnOk result (Spell (own_of 1 lines.now) (entries_of state.new.history 1)) }
+    ensures stopped { OnErr result (StopsForMemory (own_of 1 lines.now)
+        (entries_of state.new.history 1)) }
 {
     for line in lines {
         make_line(state, frames, line)?;

@@ -1,5 +1,6 @@
-use Rattle.std.proofs.Common.{[]}
+use Rattle.std.proofs.Common.{[], sym, subst}
 use Rattle.block_runs.specs.Callers.{SeesMore}
+use Rattle.block_runs.specs.Lines.{LineTakesMemory}
 use Rattle.block_runs.proofs.KernelCalls.{call_made, call_lacked, on_err}
 use Rattle.block_runs.proofs.LineCalls.{names_file, plain_made, plain_may}
 use Rattle.block_runs.proofs.blocks.make_line.Goals as goal
@@ -10,6 +11,10 @@ call-requires-clause-may g c = plain_may (g.K.Calls.kernel c.args.kernel.now) c.
 
 pub returns-in_err-call-in-Call-clause-caller : goal.returns-in_err-call-in-Call-clause-caller
 returns-in_err-call-in-Call-clause-caller g c = (call_lacked (g.K.Calls.kernel c.args.kernel.now) c.args.caller.now c.call.new.caller c.in-Call.call c.requires.caller c.in_err-call-in-Call.ensures.caller c.in_err-call-in-Call.ensures.goes c.in_err-call-in-Call.ensures.err).1
+
+pub returns-in_err-call-in-Call-clause-takes : goal.returns-in_err-call-in-Call-clause-takes
+returns-in_err-call-in-Call-clause-takes g c =
+    on_err c.from_residual.result (LineTakesMemory c.args.line.now.act) (subst LineTakesMemory (sym c.in-Call.is) c.in_err-call-in-Call.ensures.err.takes)
 
 pub returns-in_err-call-in-Call-clause-err : goal.returns-in_err-call-in-Call-clause-err
 returns-in_err-call-in-Call-clause-err g c =

@@ -1,6 +1,8 @@
-use Rattle.std.proofs.Common.{[], inr}
+use Rattle.std.proofs.Common.{[], inr, sym, subst}
 use Rattle.vm_script.specs.flat_model.Told.{SpelledLine}
-use Rattle.block_runs.proofs.LineCalls.{OneCall, line_made, line_may, ok_made, one_call, one_cut, write_sized}
+use Rattle.vm_core.specs.Calls.{TakesMemory}
+use Rattle.block_runs.specs.Lines.{LineTakesMemory}
+use Rattle.block_runs.proofs.LineCalls.{OneCall, err_kept, line_made, line_may, ok_made, one_call, one_cut, write_sized}
 use Rattle.block_runs.proofs.blocks.make_named.Given.{Over}
 use Rattle.block_runs.proofs.blocks.make_named.Goals as goal
 use Rattle.block_runs.proofs.blocks.make_named.Goals.{In-Named, After-cut_write-first}
@@ -18,6 +20,10 @@ returns-in-Named-clause-made g c =
     ok_made _ _ c.make_parts.result
     (line_made (g.K.Calls.kernel c.args.kernel.now) c.args.caller.now c.args.line.now (record { call = c.in-Named.call; bytes = [] }) (named g (goal.at.returns-in-Named-clause-made g c).In-Named) c.make_parts.new.caller)
     c.make_parts.ensures.made
+
+pub returns-in-Named-clause-takes : goal.returns-in-Named-clause-takes
+returns-in-Named-clause-takes g c =
+    err_kept _ _ c.make_parts.result (subst LineTakesMemory (sym c.in-Named.is)) c.make_parts.ensures.takes
 
 -- A write
 pub cut_write-first-requires-clause-some : goal.cut_write-first-requires-clause-some
@@ -48,3 +54,7 @@ pub returns-in-Write-clause-made : goal.returns-in-Write-clause-made
 returns-in-Write-clause-made g c =
     let at = (goal.at.returns-in-Write-clause-made g c).After-cut_write-first in
     ok_made _ _ c.make_parts-in-Write.result (line_made (g.K.Calls.kernel c.args.kernel.now) c.args.caller.now c.args.line.now (written g at) (cut g at) c.make_parts-in-Write.new.caller) c.make_parts-in-Write.ensures.made
+
+pub returns-in-Write-clause-takes : goal.returns-in-Write-clause-takes
+returns-in-Write-clause-takes g c =
+    err_kept _ _ c.make_parts-in-Write.result (λ takes. absurd (subst TakesMemory c.cut_write-first.ensures.first takes)) c.make_parts-in-Write.ensures.takes

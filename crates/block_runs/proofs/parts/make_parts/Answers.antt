@@ -1,6 +1,7 @@
 use Rattle.std.proofs.Common.{◌≡◌, ℕ, List, [], length, Some, None, sym, ap, ◌∙◌, subst}
 use Rattle.std.specs.Prelude.{drop}
 use Rattle.vm_script.specs.vm_types.Parts.{next_part, part_bytes}
+use Rattle.vm_core.specs.Calls.{TakesMemory}
 use Rattle.block_runs.specs.Callers.{SeesMore}
 use Rattle.block_runs.proofs.KernelCalls.{call_made, call_lacked, on_err}
 use Rattle.block_runs.proofs.Parting.{PartsMade, part_may, parts_start, parts_next, parts_end, parts_err}
@@ -27,6 +28,9 @@ pub returns-in_err-reply-clause-caller : goal.returns-in_err-reply-clause-caller
 returns-in_err-reply-clause-caller g c =
     let e = c.in_err-reply.ensures in
     (call_lacked (g.K.Calls.kernel c.args.kernel.now) c.loop.caller c.call.new.caller c.loop.call c.loop.invariant.caller e.caller e.goes e.err).1
+
+pub returns-in_err-reply-clause-takes : goal.returns-in_err-reply-clause-takes
+returns-in_err-reply-clause-takes g c = on_err c.from_residual.result (TakesMemory c.args.call.now) (c.loop.invariant.takes c.in_err-reply.ensures.err.takes)
 
 pub returns-in_err-reply-clause-err : goal.returns-in_err-reply-clause-err
 returns-in_err-reply-clause-err g c =

@@ -1,4 +1,5 @@
 use Rattle.std.proofs.Common.{◌≡◌, sym, subst}
+use Rattle.block_runs.specs.Lines.{LineTakesMemory}
 use Rattle.block_runs.proofs.KernelCalls.{on_err}
 use Rattle.block_runs.proofs.LineCalls.{names_file, plain_made, plain_may}
 use Rattle.vm_run.specs.Lines.{AreOfOne, alone_caller, alone_kernel}
@@ -13,6 +14,10 @@ make_call-requires-clause-may g c =
 
 pub returns-in_err-make_call-in-Call-clause-alone : goal.returns-in_err-make_call-in-Call-clause-alone
 returns-in_err-make_call-in-Call-clause-alone g c = subst AreOfOne (sym c.in_err-make_call-in-Call.ensures.err) c.requires.alone
+
+pub returns-in_err-make_call-in-Call-clause-takes : goal.returns-in_err-make_call-in-Call-clause-takes
+returns-in_err-make_call-in-Call-clause-takes g c =
+    on_err c.from_residual.result (LineTakesMemory c.args.line.now.act) (subst LineTakesMemory (sym c.in-Call.is) c.in_err-make_call-in-Call.ensures.takes)
 
 pub returns-in_err-make_call-in-Call-clause-err : goal.returns-in_err-make_call-in-Call-clause-err
 returns-in_err-make_call-in-Call-clause-err g c = on_err c.from_residual.result (c.make_call.new.state.history ≡ c.args.state.now.history) c.in_err-make_call-in-Call.ensures.err

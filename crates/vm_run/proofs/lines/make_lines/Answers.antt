@@ -2,7 +2,11 @@ use Rattle.std.proofs.Common.{◌≡◌, ◌∷◌, ◌+◌, drop, sym, subst, �
 use Rattle.std.proofs.lemmas.List.{drop_all, drop_more}
 use Rattle.volume_files.specs.vm_script.declared.plan.PlanLine.{PlanLine}
 use Rattle.block_runs.specs.Lines.{IsCallLine}
-use Rattle.vm_run.proofs.Alone.{line-may, lines-all, lines-front, lines-more, lines-start}
+use Rattle.block_runs.specs.Rows.{StopsForMemory}
+use Rattle.block_runs.specs.Lines.{own_of}
+use Rattle.block_runs.proofs.KernelCalls.{on_err}
+use Rattle.volume_files.specs.flat_model.Told.{entries_of}
+use Rattle.vm_run.proofs.Alone.{line-may, lines-all, lines-front, lines-more, lines-start, lines-stopped}
 use Rattle.vm_run.proofs.GoingOn.{stays-still}
 use Rattle.vm_run.proofs.Rounds.{frames-still}
 use Rattle.vm_run.proofs.Trips.{then-too}
@@ -49,6 +53,14 @@ returns-in_err-make_line-clause-event g c = then-too c.args.state.now c.loop-lin
 pub returns-in_err-make_line-clause-front : goal.returns-in_err-make_line-clause-front
 returns-in_err-make_line-clause-front g c =
     lines-front c.args.state.now c.loop-line.state c.args.lines.now (drop c.loop-line.line-index c.args.lines.now) c.make_line.new.state.history c.loop-line.invariant c.in_err-make_line.ensures.err
+
+pub returns-in_err-make_line-clause-stopped : goal.returns-in_err-make_line-clause-stopped
+returns-in_err-make_line-clause-stopped g c =
+    let i = c.loop-line.line-index in
+    let at = (goal.at.returns-in_err-make_line-clause-stopped g c).After-line-item in
+    on_err c.from_residual.result (StopsForMemory (own_of 1 c.args.lines.now) (entries_of c.make_line.new.state.history 1))
+    (lines-stopped c.args.state.now c.loop-line.state c.args.lines.now (drop i c.args.lines.now) (drop (i + 1) c.args.lines.now) c.line-item.result c.make_line.new.state.history (next g at) c.loop-line.invariant
+    c.in_err-make_line.ensures.err c.in_err-make_line.ensures.takes)
 
 pub returns-clause-front : goal.returns-clause-front
 returns-clause-front g c =

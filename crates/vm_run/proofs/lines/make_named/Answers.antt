@@ -1,6 +1,8 @@
-use Rattle.std.proofs.Common.{[], inr}
+use Rattle.std.proofs.Common.{[], inr, sym, subst}
 use Rattle.volume_files.specs.flat_model.Told.{SpelledLine}
-use Rattle.block_runs.proofs.LineCalls.{OneCall, line_made, line_may, ok_made, one_call, one_cut, write_sized}
+use Rattle.vm_core.specs.Calls.{TakesMemory}
+use Rattle.block_runs.specs.Lines.{LineTakesMemory}
+use Rattle.block_runs.proofs.LineCalls.{OneCall, err_kept, line_made, line_may, ok_made, one_call, one_cut, write_sized}
 use Rattle.vm_run.specs.Lines.{alone_caller, alone_kernel}
 use Rattle.vm_run.proofs.lines.make_named.Given.{Over}
 use Rattle.vm_run.proofs.lines.make_named.Goals as goal
@@ -22,6 +24,10 @@ returns-in-Named-clause-made g c =
     (line_made (alone_kernel s) (alone_caller s s.history) c.args.line.now (record { call = c.in-Named.call; bytes = [] }) (named g (goal.at.returns-in-Named-clause-made g c).In-Named)
     (alone_caller s c.make_parts.new.state.history))
     c.make_parts.ensures.made
+
+pub returns-in-Named-clause-takes : goal.returns-in-Named-clause-takes
+returns-in-Named-clause-takes g c =
+    err_kept _ _ c.make_parts.result (subst LineTakesMemory (sym c.in-Named.is)) c.make_parts.ensures.takes
 
 -- A write
 pub cut_write-first-requires-clause-some : goal.cut_write-first-requires-clause-some
@@ -55,3 +61,7 @@ returns-in-Write-clause-made g c =
     let s = c.args.state.now in
     ok_made _ _ c.make_parts-in-Write.result
     (line_made (alone_kernel s) (alone_caller s s.history) c.args.line.now (written g at) (cut g at) (alone_caller s c.make_parts-in-Write.new.state.history)) c.make_parts-in-Write.ensures.made
+
+pub returns-in-Write-clause-takes : goal.returns-in-Write-clause-takes
+returns-in-Write-clause-takes g c =
+    err_kept _ _ c.make_parts-in-Write.result (λ takes. absurd (subst TakesMemory c.cut_write-first.ensures.first takes)) c.make_parts-in-Write.ensures.takes

@@ -1,5 +1,6 @@
 use Rattle.std.proofs.Common.{◌≡◌, ℕ, Some, drop, sym, ap, ◌∙◌, subst}
 use Rattle.volume_files.specs.vm_types.Parts.{next_part}
+use Rattle.vm_core.specs.Calls.{TakesMemory}
 use Rattle.block_runs.proofs.KernelCalls.{on_err}
 use Rattle.vm_run.specs.Lines.{AreOfOne}
 use Rattle.vm_run.proofs.Alone.{alone-end, alone-lacked, alone-may, alone-next, alone-start, of-one-more}
@@ -44,6 +45,9 @@ returns-in_err-reply-clause-event g c = then-too c.args.state.now c.loop-reply.s
 
 pub returns-in_err-reply-clause-alone : goal.returns-in_err-reply-clause-alone
 returns-in_err-reply-clause-alone g c = subst AreOfOne (sym c.in_err-reply.ensures.err) c.loop-reply.invariant.alone
+
+pub returns-in_err-reply-clause-takes : goal.returns-in_err-reply-clause-takes
+returns-in_err-reply-clause-takes g c = on_err c.from_residual.result (TakesMemory c.args.call.now) (c.loop-reply.invariant.parts.takes c.in_err-reply.ensures.takes)
 
 pub returns-in_err-reply-clause-err : goal.returns-in_err-reply-clause-err
 returns-in_err-reply-clause-err g c =
