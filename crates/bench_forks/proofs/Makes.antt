@@ -7,12 +7,13 @@ use Rattle.seg_vn.specs.declared.attempt.Attempt.{Attempt}
 use Rattle.vm_core.specs.Calls.{AnswersCall, IsOnOwnSpace}
 use Rattle.vm_core.specs.vm_world.Events.{CanTry, IsEvent, MayBear}
 use Rattle.vm_core.specs.vm_world.State.{KernelState, seat_of}
-use Rattle.vm_trials.specs.Trials.{IsTrialState, IsOnePart}
-use Rattle.vm_trials.proofs.TrialLemmas.{idle, no-fork-bears, trial-answered}
+use Rattle.vm_trials.specs.Trials.{IsTrialState, LiesInOneLine}
+use Rattle.lane_driver.proofs.MayGo.{bears-none}
+use Rattle.vm_trials.proofs.TrialLemmas.{idle, trial-answered}
 use Rattle.bench_forks.specs.Ready.{MayMake}
 
 pub own-bears : (s : KernelState) (p : ℕ) (call : Call) → IsOnOwnSpace call → MayBear s p call
-own-bears s p call own = no-fork-bears s p call (λ child is. absurd (subst IsOnOwnSpace is own))
+own-bears s p call own = bears-none s p call (λ child is. absurd (subst IsOnOwnSpace is own))
 
 pub can-try : (s : KernelState) (seats seat : ℕ) (call : Call) → IsTrialState s (replicate seats None) → MayMake s seat call → MayBear s (seat + 1) call → CanTry s seat (seat + 1) call
 can-try s seats seat call trial may bears = record {
@@ -23,7 +24,7 @@ can-try s seats seat call trial may bears = record {
   bears = bears;
 }
 
-pub after-call : {E : Type 0} (s t : KernelState) (seats seat : ℕ) (call : Call) (result : Result Attempt E) → IsTrialState s (replicate seats None) → IsOnePart call → IsEvent seat s None t None
+pub after-call : {E : Type 0} (s t : KernelState) (seats seat : ℕ) (call : Call) (result : Result Attempt E) → IsTrialState s (replicate seats None) → LiesInOneLine call → IsEvent seat s None t None
     → IfOk result (AnswersCall s t seat (seat + 1) call) → OnErr result (t ≡ s) → IsTrialState t (replicate seats None)
 after-call s t seats seat call (Ok attempt) trial part event answers same = trial-answered s t (replicate seats None) seat (seat + 1) call attempt trial (idle seats seat) part event answers
 after-call s t seats seat call (Err e) trial part event answers same = subst (λ (u : KernelState). IsTrialState u (replicate seats None)) (sym same) trial

@@ -2,7 +2,7 @@
 ghost use Rattle.std.specs.Prelude.{◌≡◌, ◌<◌, ◌+◌, ◌^◌, IsTrue, None, replicate};
 ghost use Rattle.bench_forks.specs.Ready.{MayMake};
 ghost use Rattle.vm_core.specs.Calls.{IsOnOwnSpace};
-ghost use Rattle.vm_trials.specs.Trials.{IsTrialState, IsOnePart};
+ghost use Rattle.vm_trials.specs.Trials.{IsTrialState, LiesInOneLine};
 
 use block_device::MemDisk;
 use std::marker::Model;
@@ -51,7 +51,7 @@ impl Machine {
 
     /// Tries a call of the process of a seat once, where it may make it.
     pub(crate) fn make(&mut self, seat: u32, call: &Call)
-        requires part { IsOnePart call.now }
+        requires part { LiesInOneLine call.now }
         requires own { IsOnOwnSpace call.now }
     {
         if seat >= self.seats || !may_make(&self.state, seat, call) {

@@ -1,2 +1,3 @@
 pub mod TrialLemmas
 pub mod TrialFiles
+pub mod LaneLemmas

@@ -1,24 +1,19 @@
 -- ACTS OF SEATS leave a state that fits with what the seats have outside.
-use Rattle.std.proofs.Common.{◌≡◌, ◌≢◌, ℕ, ◌-◌, ◌<◌, ◌≤◌, ◌==◌, Bool, true, false, cond, List, [], ◌∷◌, ◌++◌, length, map, zero, suc, Option, Some, None, refl, sym, ap, ◌∙◌, inl, inr, subst, arith}
-use Rattle.std.specs.Prelude.{IsTrue, is_none, IfSome, MatchOption, if◌then◌else◌, option_map, replicate, slice_index_or, slice_set}
+use Rattle.std.proofs.Common.{◌≡◌, ℕ, ◌-◌, ◌<◌, ◌==◌, Bool, true, false, List, [], ◌∷◌, ◌++◌, length, map, zero, suc, Option, Some, None, refl, sym, ap, ◌∙◌, inl, inr, subst, arith}
+use Rattle.std.specs.Prelude.{IsTrue, IfSome, MatchOption, if◌then◌else◌, option_map, replicate, slice_index_or, slice_set}
 use Rattle.std.proofs.lemmas.Bool.{cases_eq}
-use Rattle.std.proofs.lemmas.Bool.Decides.{nat_tests}
 use Rattle.std.proofs.lemmas.List.{length-map, map-set, length-set, length-replicate, get_or-set_same, get_or-set_other}
 use Rattle.std.proofs.Math.ListN.{get_or-map}
-use Rattle.vm_types.specs.Pages.{line_rest}
-use Rattle.vm_types.specs.Parts.{next_part, ends_call, is_short}
+use Rattle.vm_types.specs.Parts.{ends_call}
 use Rattle.vm_types.specs.declared.call.Call.{Call}
-use Rattle.vm_types.specs.declared.call.Call.TheVariants.{Load, Store, Map, Unmap, Protect, Sync, Read, Write, Truncate, Fork, Exit}
 use Rattle.vm_types.specs.declared.call.Entry.{Entry}
 use Rattle.vm_types.specs.declared.call.Reply.{Reply}
-use Rattle.vm_types.specs.declared.call.Reply.TheVariants as reply
-use Rattle.vm_types.specs.declared.call.Reply.TheVariants.{Bytes}
 use Rattle.flat_model.specs.OpenLaws.{last_entry, FollowsOn, MayFollow}
 use Rattle.flat_model.proofs.Opens.{last_entry-push}
 use Rattle.seg_ops.specs.page_store.Flight.{FlightSeen, IsPerformed, note_of, fresh}
 use Rattle.seg_vn.specs.declared.attempt.Attempt.{Attempt}
 use Rattle.seg_vn.specs.declared.attempt.Attempt.TheVariants.{Done, Need, Busy}
-use Rattle.seg_ops.specs.vm_world.Events.{IsEvent, MayBear}
+use Rattle.seg_ops.specs.vm_world.Events.{IsEvent}
 use Rattle.seg_ops.specs.vm_world.Opening.{no_seats}
 use Rattle.seg_ops.specs.vm_world.StateFits.{StateFits}
 use Rattle.seg_ops.specs.vm_world.State.{KernelState, Fixed, Seats, Sent, Caller, KeptPlan, with_sent, seats_of}
@@ -28,37 +23,10 @@ use Rattle.vm_core.specs.Calls.{AnswersCall}
 use Rattle.vm_core.specs.Finish.{FitsStill}
 use Rattle.vm_core.specs.Fits.{FitsAt}
 use Rattle.vm_core.specs.Flights.{EndsWith, IsBack, sent_with}
-use Rattle.vm_trials.specs.Trials.{TripSeen, trip_sent, seats_with, IsTrip, IsTrialState, IsOnePart, IsOfOnePart}
+use Rattle.lane_driver.proofs.MayGo.{one-entry}
+use Rattle.vm_trials.specs.Trials.{TripSeen, trip_sent, seats_with, IsTrip, IsTrialState, LiesInOneLine, IsOfOnePart}
 
 -- NO CALL IS BETWEEN TWO PARTS
-one-read : (a b : Bool) (next : Option Call) → (a ≡ false → b ≡ true) → IsTrue (is_none (cond a None (cond b None next)))
-one-read true b next last = refl
-one-read false true next last = refl
-one-read false false next last = absurd (let z : false ≡ true = last refl in cc)
-
-last-read : (offset len n : ℕ) → len ≤ line_rest offset → is_short offset len n ≡ false → (len - n == 0) ≡ true
-last-read offset len n le whole = grind (arith, nat_tests)
-
-part-ends : (call : Call) (r : Reply) → IsOnePart call → IsTrue (ends_call call r)
-unfolding next_part
-part-ends (Read file offset len) (Bytes line) one = one-read (is_short offset len (length line)) ((len - length line) == 0) _ (last-read offset len (length line) one)
-part-ends (Write file offset line rest) reply.Done one = subst (λ (n : ℕ). IsTrue (is_none (next_part (Write file offset line n) reply.Done []))) (sym one) refl
-part-ends (Load a n) r one = refl
-part-ends (Store a n v) r one = refl
-part-ends (Map place len prot kind object offset) r one = refl
-part-ends (Unmap a len) r one = refl
-part-ends (Protect a len prot) r one = refl
-part-ends (Sync a len) r one = refl
-part-ends (Truncate file len) r one = refl
-part-ends (Fork child) r one = refl
-part-ends Exit r one = refl
-part-ends (Read file offset len) r one = refl
-part-ends (Write file offset line rest) r one = refl
-
-pub no-fork-bears : (s : KernelState) (p : ℕ) (call : Call) → ((child : ℕ) → call ≢ Fork child) → MayBear s p call
-no-fork-bears s p (Fork child) fork = absurd (fork child refl)
-no-fork-bears s p call fork = tt
-
 abbrev AnyFollows : List Entry → Type 0
 AnyFollows H = (e : Entry) → MayFollow H e
 
@@ -69,13 +37,13 @@ follows-next H e follows ends d = subst (λ (o : Option Entry). MatchOption o (U
     by_process true = inl ends
     by_process false = follows d
 
-answered-follows : (s t : KernelState) (seat p : ℕ) (call : Call) (a : Attempt) → AnyFollows s.history → IsOnePart call → AnswersCall s t seat p call a → AnyFollows t.history
-answered-follows s t seat p call (Done reply) follows served answers = subst AnyFollows (sym answers.adds.history) (follows-next s.history _ follows (part-ends call reply served))
+answered-follows : (s t : KernelState) (seat p : ℕ) (call : Call) (a : Attempt) → AnyFollows s.history → LiesInOneLine call → AnswersCall s t seat p call a → AnyFollows t.history
+answered-follows s t seat p call (Done reply) follows served answers = subst AnyFollows (sym answers.adds.history) (follows-next s.history _ follows (one-entry call reply served))
 answered-follows s t seat p call (Need plan) follows served answers = subst AnyFollows (sym answers.began.none.history) follows
 answered-follows s t seat p call (Busy hold) follows served answers = subst AnyFollows (sym answers.began.none.history) follows
 
 ended-follows : (u t : KernelState) (of : Option Caller) (answer : Option Reply) → AnyFollows u.history → IsOfOnePart of → EndsWith u t of answer → AnyFollows t.history
-ended-follows u t (Some of) (Some reply) follows served ends = subst AnyFollows (sym ends.history) (follows-next u.history _ follows (part-ends of.1 reply served))
+ended-follows u t (Some of) (Some reply) follows served ends = subst AnyFollows (sym ends.history) (follows-next u.history _ follows (one-entry of.1 reply served))
 ended-follows u t (Some of) None follows served ends = subst AnyFollows (sym ends.none.history) follows
 ended-follows u t None None follows served ends = subst AnyFollows (sym ends.none.history) follows
 ended-follows u t None (Some reply) follows served ends = absurd ends
@@ -109,7 +77,7 @@ trial-event s t trips seat trial idle event follows = record {
   each = trial.each;
 }
 
-pub trial-answered : (s t : KernelState) (trips : List (Option TripSeen)) (seat p : ℕ) (call : Call) (a : Attempt) → IsTrialState s trips → slice_index_or trips seat None ≡ None → IsOnePart call → IsEvent seat s None t None
+pub trial-answered : (s t : KernelState) (trips : List (Option TripSeen)) (seat p : ℕ) (call : Call) (a : Attempt) → IsTrialState s trips → slice_index_or trips seat None ≡ None → LiesInOneLine call → IsEvent seat s None t None
     → AnswersCall s t seat p call a → IsTrialState t trips
 trial-answered s t trips seat p call a trial idle served event answers = trial-event s t trips seat trial idle event (answered-follows s t seat p call a trial.follows served answers)
 

@@ -1,11 +1,10 @@
 -- A state that is tried out, with what its seats have outside it; and the files of the trials. Inside: no public clause cites this.
-use Rattle.std.specs.Prelude.{◌≡◌, ◌<◌, ◌≤◌, ◌+◌, ◌^◌, ℕ, Bool, List, [], ◌∷◌, Option, None, Some, IfSome, IsSome, map, option_map, slice_index_or, length}
+use Rattle.std.specs.Prelude.{◌≡◌, ◌<◌, ◌+◌, ◌^◌, ℕ, Bool, List, [], ◌∷◌, Option, None, Some, IfSome, IsSome, map, option_map, slice_index_or, length}
 use Rattle.std.specs.FinMap as finite
 use Rattle.seg_ops.specs.page_store.Flight.{FlightSeen, note_of, fresh}
+use Rattle.seg_ops.specs.page_store.Notes.{no_notes}
 use Rattle.vm_types.specs.WellFormed.{IsWellFormed}
-use Rattle.vm_types.specs.Pages.{line_rest}
 use Rattle.vm_types.specs.declared.call.Call.{Call}
-use Rattle.vm_types.specs.declared.call.Call.TheVariants.{Read, Write}
 use Rattle.vm_types.specs.declared.call.Entry.{Entry}
 use Rattle.vnode_files.specs.declared.vnode.FileInfo.{FileInfo}
 use Rattle.vnode_files.specs.Files.{FilesSeen, no_files, with_disk, with_next_file}
@@ -14,8 +13,11 @@ use Rattle.flat_model.specs.Flat.{Flat}
 use Rattle.flat_model.specs.OpenLaws.{MayFollow}
 use Rattle.flat_model.specs.Told.{entries_of}
 use Rattle.seg_ops.specs.vm_world.Events.{MayBear}
+use Rattle.seg_ops.specs.vm_world.FlatMemory.{flat_memory}
+use Rattle.seg_ops.specs.vm_world.Opening.{IsOpening, no_seats}
 use Rattle.seg_ops.specs.vm_world.State.{KernelState, Caller, Sent, Seats, room_of, seats_of}
 use Rattle.seg_ops.specs.vm_world.StateFits.{StateFits}
+pub use Rattle.lane_driver.specs.Lanes.{LiesInOneLine}
 
 -- What a seat has outside: its transfer, and the process and call that it is for.
 abbrev pub TripSeen : Type 0
@@ -27,15 +29,9 @@ trip_sent t = record { note = note_of t.0; of = t.1 }
 abbrev pub seats_with : List (Option TripSeen) → Seats
 seats_with trips = seats_of (map (option_map trip_sent) trips)
 
--- The call is done with one entry, whatever is answered to it: it is no part of a read or a write, or the only one.
-abbrev pub IsOnePart : Call → Type 0
-IsOnePart (Read file offset len) = len ≤ line_rest offset
-IsOnePart (Write file offset line rest) = rest ≡ 0
-IsOnePart call = Unit {0}
-
--- A transfer is for such a call, or for none.
+-- A transfer is for a call that is done with one entry, or for none.
 abbrev pub IsOfOnePart : Option Caller → Type 0
-IsOfOnePart of = IfSome of (λ (c : Caller). IsOnePart c.1)
+IsOfOnePart of = IfSome of (λ (c : Caller). LiesInOneLine c.1)
 
 -- A transfer that wasn't made yet.
 pub record IsTrip (t : TripSeen) : Type 0 where
@@ -49,6 +45,12 @@ pub record IsTrialState (s : KernelState) (trips : List (Option TripSeen)) : Typ
   pub follows : (e : Entry) → MayFollow s.history e
   pub seated : length s.syncs ≡ length trips
   pub each : (seat : ℕ) (t : TripSeen) → slice_index_or trips seat None ≡ Some t → IsTrip t
+
+-- The state as it begins, with so many seats: it fits the flat memory that it is then, and nobody has anything outside.
+pub record IsTrialStart (seats : ℕ) (s : KernelState) : Type 0 where
+  pub opening : IsOpening s
+  pub fits : StateFits (flat_memory s.memory s.born no_notes) s no_seats
+  pub seated : length s.syncs ≡ seats
 
 -- The seat has nothing outside; and the call is well formed, and its process is alive, may make an entry more, and may bear a child where the call does.
 pub record MayTry (s : KernelState) (trips : List (Option TripSeen)) (seat : ℕ) (call : Call) : Type 0 where

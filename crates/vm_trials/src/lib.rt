@@ -12,6 +12,10 @@ mod fork_tests;
 #[cfg(test)]
 mod histories;
 #[cfg(test)]
+mod lane_tests;
+#[cfg(test)]
+mod lanes;
+#[cfg(test)]
 mod many_tests;
 #[cfg(test)]
 mod mapping_tests;

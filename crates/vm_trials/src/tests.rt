@@ -3,7 +3,7 @@
 ghost use Rattle.std.specs.Prelude.{◌≡◌, ◌<◌, ℕ, List, true, false, IfOk};
 ghost use Rattle.block_device.specs.MemDiskLook.{look};
 ghost use Rattle.block_device.specs.MemSeen.{disk_of};
-ghost use Rattle.vm_trials.specs.Trials.{IsOnePart, trial_file, trial_files};
+ghost use Rattle.vm_trials.specs.Trials.{LiesInOneLine, IsTrialStart, trial_file, trial_files};
 
 use crate::file_tests::change_files;
 use crate::mapping_tests::{change_mappings, sync_pages};
@@ -106,10 +106,12 @@ fn new_files(alloc: Global) -> Result<Files, AllocError>
     Ok(files)
 }
 
-/// Two processes over six frames and four translations. Calls 1 and 4 of disk 0 fail.
-fn started(alloc: Global) -> Result<Trial, Fail> {
+/// Two processes over six frames and four translations. These calls of disk 0 fail.
+pub(crate) fn opened(alloc: Global, fails: &[u64]) -> Result<VmState<MemDisk>, Fail>
+    ensures { IfOk result (IsTrialStart 3) }
+{
     let mut disks = Vec::with_capacity(alloc, 2)?;
-    disks.push_reserved((0, new_disk(alloc, 0, &[1, 4])?));
+    disks.push_reserved((0, new_disk(alloc, 0, fails)?));
     disks.push_reserved((1, new_disk(alloc, 16, &[])?));
     let setup = Setup {
         frames: 6,
@@ -123,9 +125,13 @@ fn started(alloc: Global) -> Result<Trial, Fail> {
         seats: 3,
     };
     match VmState::start(alloc, setup) {
-        Ok(state) => Trial::new(alloc, state, 3),
+        Ok(state) => Ok(state),
         Err(_) => Err(Fail::new("no memory for the state")),
     }
+}
+
+pub(crate) fn started(alloc: Global, fails: &[u64]) -> Result<Trial, Fail> {
+    Trial::new(alloc, opened(alloc, fails)?, 3)
 }
 
 fn rights(writable: bool) -> Prot {
@@ -137,7 +143,7 @@ fn rights(writable: bool) -> Prot {
 }
 
 fn zeros(addr: u32, length: u32, kind: Kind) -> Call
-    ensures { IsOnePart result }
+    ensures { LiesInOneLine result }
 {
     Call::Map {
         place: Place::At(addr),
@@ -156,7 +162,7 @@ fn line_of(count: u32, byte: u8) -> Line {
 }
 
 pub(crate) fn call_of(what: What) -> Call
-    ensures { IsOnePart result }
+    ensures { LiesInOneLine result }
 {
     match what {
         What::Load(addr) => Call::Load { addr, size: 4 },
@@ -199,7 +205,7 @@ pub(crate) fn call_of(what: What) -> Call
     }
 }
 
-fn make(trial: &mut Trial, act: Act) -> Result<Told, Fail> {
+pub(crate) fn make(trial: &mut Trial, act: Act) -> Result<Told, Fail> {
     match act {
         Act::Do(seat, what) => trial.call(seat, &call_of(what)),
         Act::Try(seat, what) => trial.try_call(seat, &call_of(what), true),
@@ -646,7 +652,7 @@ fn make_acts(trial: &mut Trial, acts: Acts) -> Result<(), Fail> {
 
 // The owner of a state calls little and compares nothing: a step more beside an owned state is long to prove.
 pub(crate) fn made_and_closed(alloc: Global, acts: Acts) -> Result<Outcome, Fail> {
-    let mut trial = started(alloc)?;
+    let mut trial = started(alloc, &[1, 4])?;
     make_acts(&mut trial, acts)?;
     let finished = trial.finish()?;
     Ok(look_at(acts, &finished))

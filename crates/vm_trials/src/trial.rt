@@ -1,7 +1,7 @@
 //! A state with what its seats have outside it, for tests: calls are tried, transfers begin and end, and hands move.
 ghost use Rattle.std.specs.Prelude.{◌≡◌, ◌<◌, ℕ, Some, None, IsSome, IsTrue, IfOk, length, option_map, replicate, slice_index_or, slice_set};
 ghost use Rattle.seg_ops.specs.vm_world.Events.{MayBear};
-ghost use Rattle.vm_trials.specs.Trials.{IsTrialState, IsOfOnePart, IsOnePart, MayTry};
+ghost use Rattle.vm_trials.specs.Trials.{IsTrialState, IsOfOnePart, LiesInOneLine, MayTry};
 
 use block_device::MemDisk;
 use seg_ops::{Flight, Hold, Plan};
@@ -181,7 +181,7 @@ impl Trial {
 
     /// Tries a call once. A transfer that it needs begins, where this says so.
     pub(crate) fn try_call(&mut self, seat: u32, call: &Call, begins: bool) -> Result<Told, Fail>
-        requires { IsOnePart call.now }
+        requires { LiesInOneLine call.now }
     {
         if !may_try(&self.state, &self.trips, seat, call) {
             return Err(Fail::new("the process can't make the call"));
@@ -216,7 +216,7 @@ impl Trial {
 
     /// Makes a call, with the transfers that it needs, eight at most; it ends where another seat holds it up.
     pub(crate) fn call(&mut self, seat: u32, call: &Call) -> Result<Told, Fail>
-        requires { IsOnePart call.now }
+        requires { LiesInOneLine call.now }
     {
         for _try in 0..8 {
             let tried = self.try_call(seat, call, true)?;

@@ -1,5 +1,5 @@
 //! Zero objects by number, which two processes share over few frames and slots. What is told of each act is worked out by hand.
-ghost use Rattle.vm_trials.specs.Trials.{IsOnePart};
+ghost use Rattle.vm_trials.specs.Trials.{LiesInOneLine};
 
 use crate::swap_tests::{Acts, Family, Run, closed_after, made_and_closed};
 use crate::tests::{NO_OBJECT, NO_SWAP, PAST, STORED};
@@ -24,7 +24,7 @@ enum What {
 }
 
 fn map(addr: u32, length: u32, kind: Kind, object: Object, offset: u32) -> Call
-    ensures { IsOnePart result }
+    ensures { LiesInOneLine result }
 {
     Call::Map {
         place: Place::At(addr),
@@ -37,7 +37,7 @@ fn map(addr: u32, length: u32, kind: Kind, object: Object, offset: u32) -> Call
 }
 
 fn call_of(what: What) -> Call
-    ensures { IsOnePart result }
+    ensures { LiesInOneLine result }
 {
     match what {
         What::New(addr, length) => map(addr, length, Kind::Shared, Object::NewZero, 0),

@@ -1,23 +1,5 @@
-use Rattle.std.proofs.Common.{◌≡◌, ℕ, List, [], ◌∷◌, ◌++◌, ◌∙◌, sym, ap, subst}
-use Rattle.block_device.specs.MemDiskLook.{look}
-use Rattle.block_device.specs.MemSeen.{disk_of}
-use Rattle.block_device.specs.declared.mem_disk.MemDisk.{MemDisk}
-use Rattle.seg_ops.specs.page_store.Bays.{pairs_seen}
-use Rattle.vnode_files.specs.Files.{FilesSeen}
-use Rattle.vm_core.specs.Setup.{FilesOnDisks}
-use Rattle.vm_trials.proofs.TrialFiles.{on-disks}
 use Rattle.vm_trials.proofs.TrialLemmas.{trial-starts}
 use Rattle.vm_trials.proofs.tests.started.Goals as goal
 
-pub start-requires-clause-files : goal.start-requires-clause-files
-start-requires-clause-files c =
-    let first : MemDisk = c.in_ok-new_disk.field-0 in
-    let second : MemDisk = c.in_ok-new_disk-2.field-0 in
-    let items : c.push_reserved-2.new.self.items ≡ (0, first) ∷ (1, second) ∷ [] =
-    c.push_reserved-2.ensures.items ∙ ap (λ (l : List (ℕ × MemDisk)). l ++ (1, second) ∷ []) (c.push_reserved.ensures.items ∙ ap (λ (l : List (ℕ × MemDisk)). l ++ (0, first) ∷ []) c.in_ok-disks.ensures.items) in
-    let f = c.in_ok-new_files.ensures in
-    subst (λ (files : FilesSeen). FilesOnDisks files (pairs_seen (λ d. disk_of (look d)) c.push_reserved-2.new.self.items)) (sym f.2)
-    (on-disks f.0 f.1 (λ d. disk_of (look d)) c.push_reserved-2.new.self.items first second items c.in_ok-new_disk.ensures c.in_ok-new_disk-2.ensures)
-
 pub new-requires : goal.new-requires
-new-requires c = trial-starts c.in-Ok.state _ 3 c.in-Ok.ensures.fits c.in-Ok.ensures.opening.history c.in-Ok.ensures.made.seats
+new-requires c = let s = c.in_ok-opened.ensures in trial-starts c.in_ok-opened.field-0 _ 3 s.fits s.opening.history s.seated
