@@ -16,7 +16,7 @@ pub(crate) struct Counts {
     pub(crate) refused: u32,
 }
 
-fn acts(flat: &mut FlatState, entry: &Entry) -> Result<bool, AllocError> {
+pub(crate) fn acts(flat: &mut FlatState, entry: &Entry) -> Result<bool, AllocError> {
     if !entry.call.is_well_formed() {
         return Ok(false);
     }

@@ -20,6 +20,8 @@ mod many_tests;
 #[cfg(test)]
 mod mapping_tests;
 #[cfg(test)]
+mod mark_tests;
+#[cfg(test)]
 mod moving_tests;
 #[cfg(test)]
 mod segment_tests;

@@ -9,7 +9,7 @@ use std::alloc::{AllocError, Global};
 use std::marker::Model;
 use std::mem;
 use std::test::Fail;
-use vm_core::{Attempt, Finished, VmState};
+use vm_core::{Attempt, Finished, Mark, VmState};
 use vm_types::{Call, Reply};
 
 /// What a seat has outside: its transfer, and the process and call that it is for.
@@ -172,6 +172,11 @@ impl Trial {
     /// Whether a seat has something outside.
     pub(crate) fn has_out(&self, seat: u32) -> bool {
         is_out(&self.trips, seat)
+    }
+
+    /// What is known of the block of a page that a file keeps.
+    pub(crate) fn mark(&self, file: u32, page: u32) -> Option<Mark> {
+        self.state.find_mark(file, page)
     }
 
     /// Whether a seat has nothing outside, and its process may make the call.
