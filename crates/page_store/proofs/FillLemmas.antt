@@ -1,6 +1,6 @@
 -- A frame is taken for a name that gets new bytes.
 use Rattle.std.proofs.Common.{◌≡◌, ◌≢◌, ℕ, ◌<◌, Bool, true, false, inl, inr, List, Option, Some, None, IsTrue, IsSome, refl, sym, ◌∙◌, ap, subst, arith, length, set, is_some}
-use Rattle.std.specs.Prelude.{is_none, cond, IfSome, Contains}
+use Rattle.std.specs.Prelude.{◌≤◌, [], is_none, cond, option_map, unwrap_or, IfSome, Contains}
 use Rattle.std.proofs.lemmas.Bool.{cases_Bool, cases_eq}
 use Rattle.std.proofs.lemmas.List.{get_or-set_same, get_or-set_other}
 use Rattle.std.proofs.Math.ListN.{length-set}
@@ -17,22 +17,38 @@ use Rattle.page_store.specs.Laws.{FillsPage}
 use Rattle.page_store.specs.Moves.{FillsFrame, Touches, after_taking, is_only}
 use Rattle.page_store.specs.Notes.{Notes}
 use Rattle.page_store.specs.Seen.{StoreSeen, IsSoundStore, FrameAgrees, IsListedFrame, own_frame, residence, residence_in}
-use Rattle.page_store.specs.Steps.{next_frame, next_name, name_in, with_frame_filled, fresh_row, rest_free, rest_cached}
+use Rattle.page_store.specs.Steps.{next_frame, next_name, name_in, home_bytes, front_bytes, with_frame_filled, fresh_row, rest_free, rest_cached}
 use Rattle.page_store.specs.Table.{PlaceTable}
 use Rattle.page_store.specs.Value.{value, backing_value, tells}
 use Rattle.page_store.specs.declared.residence.Residence.TheVariants.{Home, Absent}
 use Rattle.page_store.proofs.Agree.{SameOut, same-row, Calm, own-far, clean-calm, fits-calm, outside-calm}
+use Rattle.page_store.proofs.Clips.{length-clip, clip-whole}
 use Rattle.page_store.proofs.Elsewhere.{OneFrame, SoundAt, one-elsewhere, only-none, sound-one, touches-one, paired-one, value-elsewhere, touches}
 use Rattle.page_store.proofs.FrameLaws.{home-unheld, home-ungone, home-source, listed-snapshot, some-not, agrees-at}
 use Rattle.page_store.proofs.QueryLemmas.{IsIn, home-is, bytes-within, some-within}
 use Rattle.page_store.proofs.TakeLemmas.{first-listed, rest-free, rest-cached, gone-free, gone-cached, rest-apart}
 
--- a page at home: its bytes are whole, and its value
-pub home-size : (s : StoreSeen) (page : PageName) (frame : ℕ) → IsSoundStore s → (is : IsIn s page frame) → length is.bytes ≡ 4096
-home-size s page frame sound is = (sound.each frame (bytes-within s.frames frame is.bytes is.there)).size is.bytes is.there
-
+-- a page at home: its value
 pub home-value : (s : StoreSeen) (page : PageName) (frame : ℕ) (is : IsIn s page frame) (notes : Notes) (table : PlaceTable) → value s notes table page ≡ is.bytes
 home-value s page frame is notes table = rw (is.found, is.there) refl
+
+-- the front of a frame that is home: what it is, its size, and where it is all of the frame
+clipped_some : (o : Option (List ℕ)) (valid : ℕ) → IsSome o → option_map (clip valid) o ≡ Some (clip valid (unwrap_or o []))
+clipped_some (Some bytes) valid h = refl
+clipped_some None valid h = absurd (let z : false ≡ true = h in cc)
+
+pub front-is : (s : StoreSeen) (frame valid : ℕ) → IsSome (bytes_at s.frames frame) → option_map (clip valid) (bytes_at s.frames frame) ≡ Some (front_bytes s.frames frame valid)
+front-is s frame valid home = clipped_some (bytes_at s.frames frame) valid home
+
+home_size : (s : StoreSeen) (frame : ℕ) (o : Option (List ℕ)) → bytes_at s.frames frame ≡ o → IsSoundStore s → IsSome o → length (unwrap_or o []) ≡ 4096
+home_size s frame (Some bytes) e sound h = (sound.each frame (bytes-within s.frames frame bytes e)).size bytes e
+home_size s frame None e sound h = absurd (let z : false ≡ true = h in cc)
+
+pub front-size : (s : StoreSeen) (frame valid : ℕ) → IsSoundStore s → IsSome (bytes_at s.frames frame) → valid ≤ 4096 → length (front_bytes s.frames frame valid) ≡ 4096
+front-size s frame valid sound home low = length-clip valid (home_bytes s (Some frame)) low (home_size s frame (bytes_at s.frames frame) refl sound home)
+
+pub front-whole : (s : StoreSeen) (frame : ℕ) → IsSoundStore s → IsSome (bytes_at s.frames frame) → front_bytes s.frames frame 4096 ≡ home_bytes s (Some frame)
+front-whole s frame sound home = clip-whole (home_bytes s (Some frame)) (home_size s frame (bytes_at s.frames frame) refl sound home)
 
 -- what is known of the frame that is taken next
 module _ (s : StoreSeen) (frame : ℕ) (sound : IsSoundStore s) (next : next_frame s ≡ Some frame) where
@@ -246,14 +262,31 @@ module _ (s : StoreSeen) (frame : ℕ) (page : PageName) (bytes : List ℕ) (mod
     };
   }
 
+-- the same bytes, told in other words
+pub fills-as : (old new : StoreSeen) (name : PageName) (modified : Bool) (given told : Notes → PlaceTable → List ℕ) → ((notes : Notes) (table : PlaceTable) → given notes table ≡ told notes table)
+    → FillsPage old new name modified given → FillsPage old new name modified told
+fills-as old new name modified given told is laws = record {
+  sound = laws.sound;
+  touches = laws.touches;
+  home = laws.home;
+  unlisted = laws.unlisted;
+  row = laws.row;
+  outside = laws.outside;
+  lost = laws.lost;
+  stay = laws.stay;
+  values = λ notes table fits. subst (λ (bytes : List ℕ). FillsFrame old notes new notes table name bytes) (is notes table) (laws.values notes table fits);
+}
+
 -- a page that is home, in a frame on no list, stays when a frame is taken for another name
 pub fills-far : (old new : StoreSeen) (name : PageName) (modified : Bool) (given : Notes → PlaceTable → List ℕ) (from : PageName) (k : ℕ)
-    → FillsPage old new name modified given → IsSoundStore old → (frame : ℕ) → next_frame old ≡ Some frame
-    → residence old name ≡ Absent → residence old from ≡ Home k → (IsListedFrame old k → ⊥) → residence new from ≡ residence old from
-fills-far old new name modified given from k laws sound frame next absent home_k unlisted =
+    → FillsPage old new name modified given → IsSoundStore old → residence old name ≡ Absent → residence old from ≡ Home k → (IsListedFrame old k → ⊥)
+    → residence new from ≡ residence old from
+fills-far old new name modified given from k laws sound absent home_k unlisted =
     let is = home-is old from k home_k in
-    laws.stay from (λ q. let z : Home k ≡ Absent = sym home_k ∙ ap (residence old) q ∙ absent in cc)
-    (λ h.
-    let held : name_at old.names frame ≡ Some from = sym (next-is old frame sound next) ∙ h in
-    let same : k ≡ frame = sound.distinct k frame from (find-at old.names from k is.found) held in
-    unlisted (subst (λ (j : ℕ). IsListedFrame old j) (sym same) (first-listed old.free old.cached frame next)))
+    laws.stay from (λ q. let z : Home k ≡ Absent = sym home_k ∙ ap (residence old) q ∙ absent in cc) (by_next (next_frame old) refl (find-at old.names from k is.found))
+  where
+    by_next : (o : Option ℕ) → next_frame old ≡ o → name_at old.names k ≡ Some from → next_name old ≢ Some from
+    by_next None next held h = let z : None ≡ Some from = sym (ap (λ (o : Option ℕ). name_in old.names o) next) ∙ h in cc
+    by_next (Some frame) next held h =
+        let same : k ≡ frame = sound.distinct k frame from held (sym (next-is old frame sound next) ∙ h) in
+        unlisted (subst (λ (j : ℕ). IsListedFrame old j) (sym same) (first-listed old.free old.cached frame next))

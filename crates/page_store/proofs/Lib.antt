@@ -3,6 +3,7 @@ pub mod Agree
 pub mod AwayLemmas
 pub mod BayLemmas
 pub mod BeginLemmas
+pub mod Clips
 pub mod Elsewhere
 pub mod EndLemmas
 pub mod FillLemmas

@@ -7,6 +7,7 @@ use Rattle.page_lists.specs.ListsSeen.{first_listed, without_frame}
 use Rattle.page_lock.specs.Rows.{row_at, clear_row, with_bits}
 use Rattle.page_lock.specs.declared.Row.{Row}
 use Rattle.page_store.specs.Bays.{home, out}
+use Rattle.page_store.specs.Bytes.{clip}
 use Rattle.page_store.specs.Flight.{FlightSeen, Progress, fresh, done, failed}
 use Rattle.page_store.specs.Parts.{rows_paired, rows_parted, rows_forsaken, rows_settled}
 use Rattle.page_store.specs.Seen.{StoreSeen}
@@ -82,6 +83,10 @@ after_fill s name bytes modified = at_frame (next_frame s) s (λ frame. with_fra
 abbrev pub home_bytes : StoreSeen → Option ℕ → List ℕ
 home_bytes s None = []
 home_bytes s (Some frame) = unwrap_or (bytes_at s.frames frame) []
+
+-- the first bytes of a frame that is home, and zeros after them
+abbrev pub front_bytes : List (Option (List ℕ)) → ℕ → ℕ → List ℕ
+front_bytes frames frame valid = clip valid (unwrap_or (bytes_at frames frame) [])
 
 -- a page and its snapshot part: the snapshot's page is gone, and the page has this modified bit
 abbrev pub with_pair_parted : StoreSeen → ℕ → ℕ → Bool → StoreSeen

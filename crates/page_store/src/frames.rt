@@ -1,13 +1,14 @@
 //! The frame tables together: a frame that is taken for a name, or comes free.
-ghost use Rattle.std.specs.Prelude.{◌≡◌, ◌≢◌, ℕ, ◌<◌, true, false, length, Some, None, IsSome, slice_set};
+ghost use Rattle.std.specs.Prelude.{◌≡◌, ◌≢◌, ℕ, ◌<◌, ◌≤◌, true, false, length, Some, None, IsSome, option_map, slice_set};
 ghost use Rattle.core_arena.specs.Bytes.{bytes_at, zeros};
 ghost use Rattle.page_hash.specs.Names.{find, AreDistinct};
 ghost use Rattle.page_lists.specs.ListsSeen.{AreApart, first_listed};
 ghost use Rattle.page_lock.specs.Rows.{row_at, clear_row};
+ghost use Rattle.page_store.specs.Bytes.{clip};
 ghost use Rattle.page_store.specs.Parts.{rows_paired, rows_parted, rows_forsaken};
 ghost use Rattle.page_store.specs.Steps.{rest_free, rest_cached, fresh_row, held_row};
 
-use core_arena::Core;
+use core_arena::{Core, Frame};
 use page_hash::{PageHash, PageName};
 use page_lists::PageLists;
 use page_lock::{PageLocks, Row};
@@ -121,8 +122,22 @@ pub(crate) fn forsake(locks: &mut PageLocks, own: u32)
     }
 }
 
-/// Copies the bytes of a home frame to another.
-pub(crate) fn copy_frame(core: &mut Core, from: u32, to: u32)
+/// Copies the first `valid` bytes of a home frame to a home frame, which may be the same one, and makes the others there zeros.
+pub(crate) fn copy_front(core: &mut Core, from: u32, valid: u32, to: u32)
+    requires from { IsSome (bytes_at core.old.frames from) }
+    requires to { IsSome (bytes_at core.old.frames to) }
+    requires valid { valid ≤ 4096 }
+    ensures { core.new ≡ record core.old {
+      frames = slice_set core.old.frames to
+          (option_map (clip valid) (bytes_at core.old.frames from));
+    } }
+{
+    copy_frame(core, from, to);
+    clear_end(core, to, valid);
+}
+
+/// Copies the bytes of a home frame to a home frame, which may be the same one.
+fn copy_frame(core: &mut Core, from: u32, to: u32)
     requires from { IsSome (bytes_at core.old.frames from) }
     requires to { IsSome (bytes_at core.old.frames to) }
     ensures { core.new ≡ record core.old {
@@ -130,21 +145,46 @@ pub(crate) fn copy_frame(core: &mut Core, from: u32, to: u32)
           (bytes_at core.old.frames from);
     } }
 {
-    let mut page = [0u8; 4096];
-    page.copy_from_slice(core.bytes(from));
-    core.bytes_mut(to).copy_from_slice(&page);
+    if from != to {
+        let frame = take_copy(core, from, to);
+        core.put(frame);
+    }
 }
 
-/// Writes 4096 bytes over those of a home frame.
-pub(crate) fn fill_frame(core: &mut Core, frame: u32, bytes: &[u8])
+/// Makes the bytes of a home frame behind the first `valid` ones zeros.
+fn clear_end(core: &mut Core, frame: u32, valid: u32)
     requires home { IsSome (bytes_at core.old.frames frame) }
-    requires size { length bytes.now ≡ 4096 }
+    requires valid { valid ≤ 4096 }
     ensures { core.new ≡ record core.old {
       frames = slice_set core.old.frames frame
-          (Some bytes.now);
+          (option_map (clip valid) (bytes_at core.old.frames frame));
     } }
 {
-    core.bytes_mut(frame).copy_from_slice(bytes);
+    cut_at(core.bytes_mut(frame), valid as usize);
+}
+
+fn cut_at(page: &mut [u8], valid: usize)
+    requires within { valid ≤ 4096 }
+    requires size { length page.old ≡ 4096 }
+    ensures { page.new ≡ clip valid page.old }
+{
+    page[valid..].fill(0);
+}
+
+/// Takes a frame out of the core, with the bytes of another one.
+pub(crate) fn take_copy(core: &mut Core, own: u32, at: u32) -> Frame
+    requires own { IsSome (bytes_at core.old.frames own) }
+    requires at { IsSome (bytes_at core.old.frames at) }
+    requires apart { own ≢ at }
+    // The frame goes out with the other one's bytes.
+    ensures origin { result.origin ≡ core.old.origin }
+    ensures number { result.number ≡ at }
+    ensures bytes { bytes_at core.old.frames own ≡ Some result.bytes }
+    ensures new { core.new ≡ record core.old { frames = slice_set core.old.frames at None } }
+{
+    let mut frame = core.take(at);
+    frame.bytes_mut().copy_from_slice(core.bytes(own));
+    frame
 }
 
 /// Makes the bytes of a home frame zeros.

@@ -7,11 +7,11 @@ ghost use Rattle.page_lock.specs.Rows.{row_at, clear_row, with_bits};
 ghost use Rattle.page_store.specs.Laws.{StaysInPlace, Releases, Pokes, FillsPage, Aborts};
 ghost use Rattle.page_store.specs.Moves.{is_only};
 ghost use Rattle.page_store.specs.Seen.{residence, IsListedFrame};
-ghost use Rattle.page_store.specs.Steps.{next_frame, home_bytes, with_piece, after_poke, after_fill, after_abort, after_reclaim};
+ghost use Rattle.page_store.specs.Steps.{next_frame, home_bytes, front_bytes, with_piece, after_poke, after_fill, after_abort, after_reclaim};
 ghost use Rattle.page_store.specs.Value.{value};
 
-use crate::frames::{copy_frame, fill_frame, forsake, rename, reset, take_frame, zero_frame};
-use crate::place::SWAP_OBJECT;
+use crate::frames::{copy_front, forsake, rename, reset, take_frame, zero_frame};
+use crate::place::{PAGE_BYTES, SWAP_OBJECT};
 use crate::residence::Residence;
 use crate::store::Store;
 use block_device::Disk;
@@ -61,20 +61,24 @@ impl<D: Disk> Store<D> {
         zero_frame(&mut self.core, frame);
     }
 
-    /// Makes a page with these 4096 bytes for a name that no frame holds. The frame of a slot is modified, that of a file's page is
-    /// not.
-    pub fn fill(&mut self, name: PageName, bytes: &[u8])
+    /// Makes a slot's page with the first `valid` bytes of a frame that is home, and zeros after them. Where that frame is the one
+    /// that is taken nothing is copied.
+    pub fn fill_from(&mut self, name: PageName, frame: u32, valid: u32)
         requires available { IsSome (next_frame self.old) }
         requires absent { residence self.old name ≡ Residence.Absent }
-        requires size { length bytes.now ≡ 4096 }
-        ensures new { self.new ≡ after_fill self.old name bytes.now (name.object == 64) }
-        ensures laws { FillsPage self.old self.new name (name.object == 64)
-            (λ notes table. bytes.now) }
+        requires slot { name.object ≡ 64 }
+        requires home { IsSome (bytes_at self.old.frames frame) }
+        requires valid { valid ≤ 4096 }
+        // The slot's page is home with these bytes.
+        ensures new { self.new ≡ after_fill self.old name
+            (front_bytes self.old.frames frame valid) true }
+        ensures laws { FillsPage self.old self.new name true
+            (λ notes table. front_bytes self.old.frames frame valid) }
     {
-        let frame = take_frame(&mut self.lists);
-        rename(&mut self.names, frame, name);
-        reset(&mut self.locks, frame, name.object == SWAP_OBJECT);
-        fill_frame(&mut self.core, frame, bytes);
+        let taken = take_frame(&mut self.lists);
+        rename(&mut self.names, taken, name);
+        reset(&mut self.locks, taken, true);
+        copy_front(&mut self.core, frame, valid, taken);
     }
 
     /// Makes a slot's page with the bytes of a page that is home.
@@ -95,12 +99,7 @@ impl<D: Disk> Store<D> {
     {
         match self.names.find(from) {
             None => unreachable!(),
-            Some(source) => {
-                let frame = take_frame(&mut self.lists);
-                rename(&mut self.names, frame, to);
-                reset(&mut self.locks, frame, true);
-                copy_frame(&mut self.core, source, frame);
-            }
+            Some(frame) => self.fill_from(to, frame, PAGE_BYTES),
         }
     }
 

@@ -15,7 +15,7 @@ ghost use Rattle.page_store.specs.Transfers.{CanBegin, BeginsTransfer, after_beg
 ghost use Rattle.page_store.specs.Waits.{Waits, plan_page};
 
 use crate::flight::{Flight, Stage};
-use crate::frames::{forget, forsake, pair, rename, reserve, take_frame};
+use crate::frames::{forget, forsake, pair, rename, reserve, take_copy, take_frame};
 use crate::plan::Plan;
 use crate::store::Store;
 use block_device::Disk;
@@ -189,20 +189,4 @@ fn take_out(
             take_copy(core, own, at)
         }
     }
-}
-
-/// Takes a frame out of the core, with the bytes of another one.
-fn take_copy(core: &mut Core, own: u32, at: u32) -> Frame
-    requires own { IsSome (bytes_at core.old.frames own) }
-    requires at { IsSome (bytes_at core.old.frames at) }
-    requires apart { own ≢ at }
-    // The frame goes out with the other one's bytes.
-    ensures origin { result.origin ≡ core.old.origin }
-    ensures number { result.number ≡ at }
-    ensures bytes { bytes_at core.old.frames own ≡ Some result.bytes }
-    ensures new { core.new ≡ record core.old { frames = slice_set core.old.frames at None } }
-{
-    let mut frame = core.take(at);
-    frame.bytes_mut().copy_from_slice(core.bytes(own));
-    frame
 }

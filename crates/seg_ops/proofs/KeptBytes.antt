@@ -11,11 +11,11 @@ use Rattle.page_store.specs.Bays as bay
 use Rattle.page_store.specs.Bytes.{clip}
 use Rattle.page_store.specs.Notes.{Notes}
 use Rattle.page_store.specs.Seen.{StoreSeen, IsSoundStore, IsListedFrame, residence}
-use Rattle.page_store.specs.Steps.{next_frame, next_name, name_in, home_bytes}
+use Rattle.page_store.specs.Steps.{next_frame, next_name, name_in, front_bytes, home_bytes}
 use Rattle.page_store.specs.Value.{content_of, content_in_bay, tells, value_in}
 use Rattle.page_store.specs.declared.residence.Residence.TheVariants.{Home, Absent}
-use Rattle.page_store.proofs.FillLemmas.{taken-value}
-use Rattle.page_store.proofs.QueryLemmas.{absent-is}
+use Rattle.page_store.proofs.FillLemmas.{front-whole, taken-value}
+use Rattle.page_store.proofs.QueryLemmas.{absent-is, home-is, home-some}
 use Rattle.vm_world.specs.MemoryFits.{MemoryFits}
 use Rattle.vm_world.specs.NotesFit.{NotesFit}
 use Rattle.vm_world.specs.Pages.{page_value}
@@ -35,6 +35,10 @@ module _ (w : World) (spaces : Spaces) (name : PageName) (frame : ℕ) (f : Memo
   -- it has the bytes of its frame, whatever the notes are
   pub home-has : (notes : Notes) → page_value w notes name ≡ home_bytes w.store (find w.store.names name)
   home-has notes = value-is w notes name (exists-page w name f.files (f.frames.exist frame name held)) ∙ home-value_bytes w.store notes (world_table w) name frame home
+
+  -- they are its frame's, all of them
+  pub whole-front : front_bytes w.store.frames frame 4096 ≡ home_bytes w.store (find w.store.names name)
+  whole-front = front-whole w.store frame f.frames.sound (home-some w.store name frame home) ∙ ap (λ (o : Option ℕ). home_bytes w.store o) (sym (home-is w.store name frame home).found)
 
   -- where its frame is on no list, that isn't the next one
   unlisted-next : ¬ IsListedFrame w.store frame → is_name (next_name w.store) name ≡ false

@@ -40,7 +40,7 @@ pub use plans::{Fault, ask, fetch};
 pub use protects::protect;
 pub use ranges::drop_places;
 pub use rooms::{evict, make_room, make_room_beside, sync};
-pub use sources::{bytes_kept, make_room_for_copy};
+pub use sources::{Front, front_kept, make_room_for_copy};
 pub use vm_world::{
     AnonMaps, AnonSlots, Call, Entry, Errno, Files, Hat, Kind, Line, Object, PAGE_SIZE, Place,
     Prot, Ranges, Reply, Segment, Signal, Wants, World, ZeroObjects, bytes_before, is_range,

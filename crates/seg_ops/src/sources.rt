@@ -1,13 +1,12 @@
 //! The page from which a copy is made: room for the copy, which may get the page's own frame, and the bytes that it gets.
-ghost use Rattle.std.specs.Prelude.{◌≡◌, ◌≢◌, ◌≤◌, ◌↔◌, ℕ, length, false, None, IsSome, IsTrue, IfSome};
+ghost use Rattle.std.specs.Prelude.{◌≡◌, ◌≢◌, ◌↔◌, ℕ, false, None, IsSome, IsTrue, IfSome};
 ghost use Rattle.page_store.specs.page_hash.Names.{is_name};
 ghost use Rattle.page_store.specs.page_lock.Rows.{row_at};
-ghost use Rattle.page_store.specs.Bytes.{clip};
 ghost use Rattle.page_store.specs.Seen.{IsListedFrame, residence};
 ghost use Rattle.page_store.specs.Steps.{next_name};
 ghost use Rattle.vm_world.specs.Words.{IsFit, IsKnown, OneIsHomeBeside};
 ghost use Rattle.vm_world.specs.World.{world_seen};
-ghost use Rattle.seg_ops.specs.Copies.{CanBeSpared, IsDiskHome, IsKnownLater, bytes_kept};
+ghost use Rattle.seg_ops.specs.Copies.{CanBeSpared, IsDiskHome, IsFront, IsKnownLater, bytes_kept, copied_bytes};
 ghost use Rattle.seg_ops.specs.Rooms.{HasRoomUnless, MakesRoom, SameLists};
 ghost use Rattle.seg_ops.specs.Steps.{IsUnwritten};
 
@@ -96,28 +95,25 @@ fn is_next<D: Disk>(store: &Store<D>, name: PageName) -> bool
     }
 }
 
-/// The first bytes of a page, and zeros after them.
-fn clip(bytes: &[u8], valid: u32) -> [u8; 4096]
-    requires within { valid ≤ 4096 }
-    requires size { length bytes.now ≡ 4096 }
-    ensures { result ≡ clip valid bytes.now }
-{
-    let valid = valid as usize;
-    let mut page = [0u8; 4096];
-    page[..valid].copy_from_slice(&bytes[..valid]);
-    page
+/// The bytes of a page that is copied: the first `valid` ones of a frame that is home, and zeros after them.
+#[derive(Clone, Copy, PartialEq, Eq, Debug)]
+pub struct Front {
+    pub frame: u32,
+    pub valid: u32,
 }
 
-/// The 4096 bytes of a page that is home, as the page has them once the next frame is taken: where that is its own, those past its
-/// object's end are zeros. Time: one page, and the search for its block where the next frame is its own.
-pub fn bytes_kept<D: Disk>(world: &World<D>, name: PageName) -> [u8; 4096]
-    requires home { (frame : ℕ) × (residence world.now.store name ≡ Residence.Home frame) }
+/// The bytes of a page that is home in a frame, as the page has them once the next frame is taken: where that is its own, those past its
+/// object's end are zeros. Constant time, but for the search for its block where the next frame is its own.
+pub fn front_kept<D: Disk>(world: &World<D>, name: PageName, frame: u32) -> Front
+    requires home { residence world.now.store name ≡ Residence.Home frame }
     requires fits { IsFit world.now }
-    ensures { result ≡ bytes_kept (world_seen world.now) name }
+    ensures bytes { copied_bytes world.now.store result ≡ bytes_kept (world_seen world.now) name }
+    ensures front { IsFront world.now.store result }
 {
-    let bytes = world.store.bytes(name);
     if is_next(&world.store, name) {
-        return clip(bytes, world_table(world, name).valid);
+        let valid = world_table(world, name).valid;
+        return Front { frame, valid };
     }
-    clip(bytes, PAGE_BYTES)
+    let valid = PAGE_BYTES;
+    Front { frame, valid }
 }

@@ -1,18 +1,18 @@
 -- Stores to private pages that aren't their cell's alone, by the steps that they take.
 use Rattle.std.proofs.Common.{◌≡◌, ℕ, ◌<◌, ◌+◌, Bool, true, false, List, length, Option, Some, None, refl, sym, ap, ◌∙◌, inl, subst, arith, slice_set, Ok, Err, not, inr}
-use Rattle.std.specs.Prelude.{IsTrue, IfSome, ◌||◌, is_some, nat_lt, option_map, option_and_then, unwrap_or}
+use Rattle.std.specs.Prelude.{IsTrue, IfSome, MatchOption, ◌||◌, is_some, nat_lt, option_map, option_and_then, unwrap_or}
 use Rattle.std.specs.Option.{option_or, option_map_or}
 use Rattle.std.specs.FinSet as set
 use Rattle.std.specs.Ordering.{nat_cmp}
 use Rattle.std.proofs.lemmas.Bool.{ltb-true}
-use Rattle.seg_ops.specs.core_arena.Bytes.{zeros}
+use Rattle.seg_ops.specs.core_arena.Bytes.{bytes_at, zeros}
 use Rattle.seg_ops.specs.anon_map.Maps.{Map, places_of, with_places}
 use Rattle.seg_ops.specs.anon_slots.Slots.{AnonSlotsSeen, count_at}
-use Rattle.seg_ops.specs.page_hash.Names.{is_name}
+use Rattle.seg_ops.specs.page_hash.Names.{find, is_name}
 use Rattle.seg_ops.specs.page_hash.declared.PageName.{PageName}
 use Rattle.seg_ops.specs.page_store.Notes.{Notes}
 use Rattle.seg_ops.specs.page_store.Seen.{StoreSeen, IsListedFrame, residence}
-use Rattle.seg_ops.specs.page_store.Steps.{next_frame, next_name}
+use Rattle.seg_ops.specs.page_store.Steps.{next_frame, next_name, after_abort, at_frame, with_page_given_up, without_snapshot}
 use Rattle.seg_ops.specs.page_store.declared.residence.Residence.TheVariants.{Home, Moving, Absent}
 use Rattle.seg_ops.specs.page_store.declared.plan.Hold.TheVariants as hold
 use Rattle.seg_ops.proofs.page_store.QueryLemmas.{absent-is}
@@ -79,6 +79,26 @@ gathered-same s new o is = ap (λ (t : StoreSeen). t.names) is ∙ by_drop o
     by_drop : (o : Option Dropped) → (with_dropped_gathered s o).names ≡ s.names
     by_drop None = refl
     by_drop (Some d) = refl
+
+-- .. and the bytes of frames, and so does a page that is given up
+pub gathered-frames : (s new : StoreSeen) (o : Option Dropped) → new ≡ with_dropped_gathered s o → new.frames ≡ s.frames
+gathered-frames s new o is = ap (λ (t : StoreSeen). t.frames) is ∙ by_drop o
+  where
+    by_drop : (o : Option Dropped) → (with_dropped_gathered s o).frames ≡ s.frames
+    by_drop None = refl
+    by_drop (Some d) = refl
+
+pub freed-frames : (s new : StoreSeen) (o : Option PageName) → MatchOption o (new ≡ s) (λ name. new ≡ after_abort s name) → new.frames ≡ s.frames
+freed-frames s new None is = ap (λ (t : StoreSeen). t.frames) is
+freed-frames s new (Some name) is = ap (λ (t : StoreSeen). t.frames) is ∙ by_frame (find s.names name)
+  where
+    by_bytes : (frame : ℕ) (bytes : Option (List ℕ)) → (with_page_given_up (without_snapshot s frame) frame bytes).frames ≡ s.frames
+    by_bytes frame None = refl
+    by_bytes frame (Some bytes) = refl
+
+    by_frame : (o : Option ℕ) → (at_frame o s (λ frame. with_page_given_up (without_snapshot s frame) frame (bytes_at s.frames frame))).frames ≡ s.frames
+    by_frame None = refl
+    by_frame (Some frame) = by_bytes frame (bytes_at s.frames frame)
 
 -- .. and what a page has once the next frame is taken
 pub gathered-later : (w : World) (store : StoreSeen) (hat : HatSeen) (o : Option Dropped) → store ≡ with_dropped_gathered w.store o → (name : PageName) (frame : ℕ) → IsKnownLater w name frame → IsKnownLater (with_tables w store hat) name frame

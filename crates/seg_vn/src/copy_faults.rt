@@ -1,5 +1,5 @@
 //! Stores to private pages that aren't their cell's alone: the cell gets a page of its own.
-ghost use Rattle.std.specs.Prelude.{◌≡◌, ◌<◌, Option, length, true, Some, None, IsSome, IsTrue, IfSome};
+ghost use Rattle.std.specs.Prelude.{◌≡◌, ◌<◌, Option, true, Some, None, IsSome, IsTrue, IfSome};
 ghost use Rattle.seg_ops.specs.core_arena.Bytes.{zeros};
 ghost use Rattle.seg_ops.specs.hat_layer.Pool.{translation_at};
 ghost use Rattle.seg_ops.specs.page_hash.declared.PageName.{PageName};
@@ -10,15 +10,15 @@ ghost use Rattle.seg_ops.specs.vm_world.Serving.{ModifiesNone};
 ghost use Rattle.seg_ops.specs.vm_world.Words.{memory, Fits, IsFit, IsKnown, OneIsHome, OneIsHomeBeside, TwoAreHome, OnlyFrames, SameFiles, SameFilesAndHat};
 ghost use Rattle.seg_ops.specs.vm_world.World.{world_seen, is_unpushed, page_exists};
 ghost use Rattle.seg_vn.specs.FaultPlaces.{IsOwnPlace, ShowsZeros, TakesNext, IsOwnSpot, GivesOwn, ServesCopy, IsCopiedSlot, IsSharedSlot, IsSharedBlank};
-ghost use Rattle.seg_ops.specs.Copies.{KeepsBytes};
+ghost use Rattle.seg_ops.specs.Copies.{IsFront, KeepsBytes, copied_bytes};
 ghost use Rattle.seg_ops.specs.Owners.{IsOwned};
 ghost use Rattle.seg_ops.specs.Rooms.{KeepsAbsent};
 
 use crate::segment::load_page;
 use home_pages::is_unpushed;
 use seg_ops::{
-    Disk, Fault, Hold, PageName, Plan, Residence, SWAP_OBJECT, Wants, World, ask, bytes_kept,
-    copy_slot, drop_translation, fetch, free_next, make_copy, make_room, make_room_for_copy,
+    Disk, Fault, Front, Hold, PageName, Plan, Residence, SWAP_OBJECT, Wants, World, ask, copy_slot,
+    drop_translation, fetch, free_next, front_kept, make_copy, make_room, make_room_for_copy,
     make_zero, take_back, zero_slot,
 };
 
@@ -31,19 +31,20 @@ pub(crate) struct OwnPlace {
 }
 
 /// Makes a slot for a place of a private mapping, with the bytes of the page that it shows, in a frame that is free.
-fn copy_into<D: Disk>(world: &mut World<D>, bytes: &[u8], own: OwnPlace) -> u32
+fn copy_into<D: Disk>(world: &mut World<D>, front: Front, own: OwnPlace) -> u32
     requires own { IsOwnPlace world.old.maps own }
-    requires shared { IfSome own.slot (IsCopiedSlot world.old bytes.now) }
-    requires size { length bytes.now ≡ 4096 }
+    requires shared { IfSome own.slot
+        (IsCopiedSlot world.old (copied_bytes world.old.store front)) }
+    requires front { IsFront world.old.store front }
     requires available { IsSome (next_frame world.old.store) }
     requires owned { IsOwned world.old own.map own.place }
-    ensures own { GivesOwn world.old world.new own bytes.now result }
+    ensures own { GivesOwn world.old world.new own (copied_bytes world.old.store front) result }
     // What stays.
     ensures rest { SameFilesAndHat world.old world.new }
 {
     match own.slot {
-        None => make_copy(world, bytes, own.map, own.place),
-        Some(held) => copy_slot(world, bytes, own.map, own.place, held),
+        None => make_copy(world, front, own.map, own.place),
+        Some(held) => copy_slot(world, front, own.map, own.place, held),
     }
 }
 
@@ -75,6 +76,7 @@ fn clear_way<D: Disk>(world: &mut World<D>, space: u32, page: u32)
         world.new.pending }
     ensures bytes { IsKnown world.old → KeepsBytes world.old world.new }
     // What stays.
+    ensures frames { world.new.store.frames ≡ world.old.store.frames }
     ensures absent { KeepsAbsent world.old.store world.new.store }
     ensures modified { ModifiesNone (world_seen world.old) (world_seen world.new) }
     ensures rest { OnlyFrames world.old world.new }
@@ -134,9 +136,9 @@ fn copy_page<D: Disk>(
     if let Some(victim) = make_room_for_copy(world, name, frame) {
         return Err(ask(world, Plan::Push(victim)));
     }
-    let bytes = bytes_kept(world, name);
+    let front = front_kept(world, name, frame);
     clear_way(world, space, page);
-    let slot = copy_into(world, &bytes, own);
+    let slot = copy_into(world, front, own);
     let object = SWAP_OBJECT;
     load_page(world, space, page, PageName { object, page: slot }, true);
     Ok(Fault::Loaded)

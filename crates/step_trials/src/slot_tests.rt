@@ -16,7 +16,7 @@ use block_device::{Block, MemDisk};
 use hat_layer::Hat;
 use seg_ops::{
     Flight, PageName, Plan, Residence, SWAP_OBJECT, Store, Wants, World, ZeroObjects, ask,
-    begin_read, bytes_kept, copy_slot, drop_object, drop_places, drop_slot, end_flight, leave_slot,
+    begin_read, copy_slot, drop_object, drop_places, drop_slot, end_flight, front_kept, leave_slot,
     make_zero,
 };
 use std::alloc::{AllocError, Global};
@@ -235,8 +235,8 @@ fn try_copy(world: &mut World<MemDisk>, map: u32) -> Told
             if count == 1 || world.store.listed(frame) {
                 return Told::No;
             }
-            let bytes = bytes_kept(world, name);
-            Told::Slot(copy_slot(world, &bytes, map, 0, slot))
+            let front = front_kept(world, name, frame);
+            Told::Slot(copy_slot(world, front, map, 0, slot))
         }
         Residence::Absent => Told::No,
         Residence::Moving(_) => Told::No,

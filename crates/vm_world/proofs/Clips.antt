@@ -6,10 +6,7 @@ use Rattle.page_store.specs.Bytes.{clip}
 use Rattle.flat_model.specs.Words.{Page}
 use Rattle.flat_model.specs.LineLaws.{page_front}
 use Rattle.vm_world.specs.WorldSteps.{cut_page}
-
--- a page all of whose bytes are valid stays
-pub clip-whole : (bytes : List ℕ) → length bytes ≡ 4096 → clip 4096 bytes ≡ bytes
-clip-whole bytes whole = let le : length bytes ≤ 4096 = omega (arith, whole) in append-nil (take 4096 bytes) ∙ take_all 4096 bytes le
+pub use Rattle.page_store.proofs.Clips.{clip-whole}
 
 pub clip-twice : (valid : ℕ) (bytes : List ℕ) → valid ≤ 4096 → length bytes ≡ 4096 → clip valid (clip valid bytes) ≡ clip valid bytes
 clip-twice valid bytes low whole =

@@ -2,7 +2,6 @@
 use Rattle.std.proofs.Common.{◌≡◌, ℕ, ◌-◌, ◌≤◌, Bool, true, cond, List, [], length, take, replicate, Option, Some, None, refl, sym, ap, inl, inr, subst, arith}
 use Rattle.std.specs.Prelude.{slice_index_or, IsTrue, is_some}
 use Rattle.std.proofs.lemmas.Bool.{cases_Bool}
-use Rattle.std.proofs.lemmas.List.{length-take, length-replicate, length-append}
 use Rattle.std.proofs.lemmas.List.Elements.{All-append, All-replicate, All-take, All-from_get_or}
 use Rattle.page_store.specs.block_device.DiskSeen.{IsBlock}
 use Rattle.page_store.specs.core_arena.Bytes.{zeros}
@@ -12,6 +11,7 @@ use Rattle.page_store.specs.Notes.{Notes}
 use Rattle.page_store.specs.Seen.{StoreSeen}
 use Rattle.page_store.specs.Value.{content_of, tells, backing_value}
 use Rattle.page_store.specs.declared.place.Place.{Place}
+use Rattle.page_store.proofs.Clips.{length-clip}
 use Rattle.flat_model.specs.Words.{IsPage, IsByte, zero_page}
 use Rattle.flat_model.proofs.WellFormed.{IsPage-zero_page}
 
@@ -21,13 +21,6 @@ zeros-are = refl
 
 pub IsPage-zeros : IsPage zeros
 IsPage-zeros = subst IsPage (sym zeros-are) IsPage-zero_page
-
-pub length-clip : (valid : ℕ) (bytes : List ℕ) → valid ≤ 4096 → length bytes ≡ 4096 → length (clip valid bytes) ≡ 4096
-length-clip valid bytes low whole =
-    let a = length-append (take valid bytes) (replicate (4096 - valid) 0) in
-    let b = length-take valid bytes in
-    let c = length-replicate {A = ℕ} (4096 - valid) 0 in
-    omega (arith, a, b, c, low, whole)
 
 -- the valid bytes of a block, with zeros behind them
 pub IsPage-clip : (valid : ℕ) (bytes : List ℕ) → valid ≤ 4096 → IsBlock bytes → IsPage (clip valid bytes)

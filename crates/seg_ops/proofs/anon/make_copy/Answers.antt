@@ -10,6 +10,7 @@ use Rattle.vm_world.specs.anon_slots.Slots.{AnonSlotsSeen, IsSoundAnonSlots}
 use Rattle.vm_world.specs.StateSteps.{PendsTails}
 use Rattle.vm_world.specs.World.{World, world_seen, slot_name}
 use Rattle.vm_world.proofs.Counting.{room}
+use Rattle.seg_ops.specs.Copies.{copied_bytes}
 use Rattle.seg_ops.specs.Slots.{MakesSlot, MakesHome, MakesPage}
 use Rattle.seg_ops.proofs.FillSteps.{some-of, takes-page}
 use Rattle.seg_ops.proofs.SlotCounts.{made-slot, least-there}
@@ -23,8 +24,8 @@ use Rattle.seg_ops.proofs.anon.make_copy.Goals as goal
 pub make-slot-requires : goal.make-slot-requires
 make-slot-requires g c = let fit = c.requires.fits.1 in room c.args.world.now.anon c.args.world.now.maps c.args.map c.args.place fit.counts c.requires.within c.requires.empty
 
-pub fill_bytes-requires-clause-absent : goal.fill_bytes-requires-clause-absent
-fill_bytes-requires-clause-absent g c = free-absent (world_seen c.args.world.now) c.make-slot.result c.requires.fits.1.frames c.make-slot.ensures.free
+pub fill_from-requires-clause-absent : goal.fill_from-requires-clause-absent
+fill_from-requires-clause-absent g c = free-absent (world_seen c.args.world.now) c.make-slot.result c.requires.fits.1.frames c.make-slot.ensures.free
 
 -- the slot that was made
 slot : (g : Over) (c : After-set g) → MakesSlot c.args.world.now.anon c.make-slot.new.self c.args.world.now.maps c.set.new.self c.args.map c.args.place c.make-slot.result
@@ -49,7 +50,7 @@ returns-clause-made g c =
     let pends = subst (λ (o : Option PageName). PendsTails w (is_name o) c.args.world.now.pending c.pend_tail.new.world.pending) c.next_name-lost.ensures
     (record { bits = c.pend_tail.ensures.pends.bits; below = c.pend_tail.ensures.pends.below }) in
     subst (λ (v : World). MakesHome w v c.args.world.now.pending c.pend_tail.new.world.pending s) (sym (ap world_seen c.pend_tail.ensures.rest))
-    (made-home w (record w { store = c.fill_bytes.new.store; anon = c.make-slot.new.self; maps = c.set.new.self }) c.args.world.now.pending c.pend_tail.new.world.pending s true (λ notes table. c.args.bytes.now) c.fill_bytes.ensures.laws c.make-slot.ensures.free k.alone pends refl)
+    (made-home w (record w { store = c.fill_from.new.self; anon = c.make-slot.new.self; maps = c.set.new.self }) c.args.world.now.pending c.pend_tail.new.world.pending s true (λ notes table. copied_bytes c.args.world.now.store c.args.front) c.fill_from.ensures.laws c.make-slot.ensures.free k.alone pends refl)
 
 pub returns-clause-makes : goal.returns-clause-makes
 returns-clause-makes g c = λ spaces p q x fits owns unloaded.
@@ -57,15 +58,15 @@ returns-clause-makes g c = λ spaces p q x fits owns unloaded.
     let s = c.make-slot.result in
     let k = slot g (goal.at.returns-clause-makes g c).After-set in
     let next = some-of (next_frame w.store) c.requires.available in
-    let bytes = c.args.bytes.now in
-    let store = c.fill_bytes.new.store in
-    let takes = takes-page w spaces store (slot_name s) next.0 bytes true (λ notes table. bytes) fits next.1 (free-absent w s fits.frames k.free) c.fill_bytes.ensures.new c.fill_bytes.ensures.laws in
+    let bytes = copied_bytes c.args.world.now.store c.args.front in
+    let store = c.fill_from.new.self in
+    let takes = takes-page w spaces store (slot_name s) next.0 bytes true (λ notes table. bytes) fits next.1 (free-absent w s fits.frames k.free) c.fill_from.ensures.new c.fill_from.ensures.laws in
     let shown = subst (λ (ps : List (Option Map)). AreShown w spaces ps) (sym k.set) (copy-shown w spaces p q c.args.map c.args.place s x c.requires.within c.requires.empty owns unloaded) in
     subst (λ (v : World). MakesPage w v spaces (is_name (next_name w.store)) c.args.map c.args.place s bytes) (sym (ap world_seen c.pend_tail.ensures.rest))
     (made-page w spaces store c.make-slot.new.self c.set.new.self c.args.map c.args.place s next.0 bytes fits k takes
-    (ap (λ (r : Row). r.modified) (of-next (next_frame w.store) next.0 (λ frame. row_at store.rows frame ≡ fresh_row true) next.1 c.fill_bytes.ensures.laws.row)) shown c.fill_bytes.ensures.laws.values)
+    (ap (λ (r : Row). r.modified) (of-next (next_frame w.store) next.0 (λ frame. row_at store.rows frame ≡ fresh_row true) next.1 c.fill_from.ensures.laws.row)) shown c.fill_from.ensures.laws.values)
 
 pub returns-clause-changes : goal.returns-clause-changes
 returns-clause-changes g c = λ spaces p q x fits owns unloaded.
-    changes-owned p q x (world_seen c.args.world.now) (world_seen c.pend_tail.new.world) spaces (is_name (next_name c.args.world.now.store)) c.args.map c.args.place c.make-slot.result c.args.bytes.now fits
+    changes-owned p q x (world_seen c.args.world.now) (world_seen c.pend_tail.new.world) spaces (is_name (next_name c.args.world.now.store)) c.args.map c.args.place c.make-slot.result (copied_bytes c.args.world.now.store c.args.front) fits
     (returns-clause-makes g c spaces p q x fits owns unloaded) owns

@@ -8,6 +8,7 @@ use Rattle.vm_world.specs.CallSteps.{ChangesMemory}
 use Rattle.vm_world.specs.World.{World, world_seen}
 use Rattle.vm_world.specs.declared.world.World as rust
 use Rattle.vm_world.specs.WorldSteps.{tails_lost}
+use Rattle.seg_ops.specs.Copies.{IsFront, copied_bytes}
 use Rattle.seg_ops.specs.Slots.{MakesHome, with_own_page}
 use Rattle.seg_ops.proofs.SlotCopies.{changes-again, own-bytes, own-held}
 use Rattle.vm_world.specs.anon_slots.Slots.{AnonSlotsSeen, count_at}
@@ -21,6 +22,9 @@ pub make_copy-requires-clause-fits : goal.make_copy-requires-clause-fits
 make_copy-requires-clause-fits g c =
     let o = c.requires.owned in
     (o.0, (c.leave_slot.ensures.empties o.0 o.1 o.2 o.3 o.4 o.5 o.6).memory)
+
+pub make_copy-requires-clause-front : goal.make_copy-requires-clause-front
+make_copy-requires-clause-front g c = subst (λ (v : World). IsFront v.store c.args.front) (sym (ap world_seen c.leave_slot.ensures.rest)) c.requires.front
 
 pub returns-clause-maps : goal.returns-clause-maps
 returns-clause-maps g c =
@@ -39,11 +43,12 @@ returns-clause-changes g c = λ spaces p q x fits owns unloaded.
     let left = c.leave_slot.ensures.empties spaces p q x fits owns unloaded in
     let none = ap (λ hat. translation_at hat.places p q) left.hat ∙ unloaded in
     let copied = c.make_copy.ensures.changes spaces p q x left.memory owns none in
-    changes-again w spaces p q x c.args.bytes.now owns.here (own-bytes w spaces p q c.args.map c.args.place c.args.slot x fits c.requires.holds owns c.args.bytes.now c.requires.bytes)
+    let bytes = copied_bytes w.store c.args.front in
+    changes-again w spaces p q x bytes owns.here (own-bytes w spaces p q c.args.map c.args.place c.args.slot x fits c.requires.holds owns bytes c.requires.bytes)
     (own-held w spaces p q c.args.map c.args.place c.args.slot x fits c.requires.holds owns)
     mid new (tails_lost w (is_name (next_name w.store)))
     (c.leave_slot.ensures.changes spaces p q x fits owns unloaded)
-    (subst (λ (v : World). ChangesMemory p (memory_of mid spaces) (memory_of new spaces) (λ F. tails_cleared (with_own_page F p q c.args.bytes.now) (tails_lost v (is_name (next_name v.store)))))
+    (subst (λ (v : World). ChangesMemory p (memory_of mid spaces) (memory_of new spaces) (λ F. tails_cleared (with_own_page F p q (copied_bytes v.store c.args.front)) (tails_lost v (is_name (next_name v.store)))))
     (ap world_seen c.leave_slot.ensures.rest) copied)
 
 pub returns-clause-made : goal.returns-clause-made

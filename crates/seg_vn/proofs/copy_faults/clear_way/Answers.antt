@@ -9,7 +9,7 @@ use Rattle.seg_ops.specs.vm_world.Words.{IsKnown}
 use Rattle.seg_ops.specs.vm_world.World.{World, world_seen}
 use Rattle.seg_ops.specs.Copies.{HasBytes, IsKnownLater, bytes_kept}
 use Rattle.seg_ops.proofs.Modified.{modifies-then}
-use Rattle.seg_vn.proofs.CopySteps.{gathered-next, gathered-same, gathered-later, gathered-kept}
+use Rattle.seg_vn.proofs.CopySteps.{freed-frames, gathered-frames, gathered-next, gathered-same, gathered-later, gathered-kept}
 use Rattle.home_pages.proofs.Takes.{takes-later, takes-next}
 use Rattle.seg_vn.proofs.copy_faults.clear_way.Goals as goal
 use Rattle.home_pages.proofs.Replacements.{cut-frame}
@@ -25,6 +25,12 @@ returns-clause-available g c =
 
 pub returns-clause-gone : goal.returns-clause-gone
 returns-clause-gone g c = ap (λ v. translation_at v.hat.places c.args.space c.args.page) c.free_next.ensures.rest ∙ c.drop_translation.ensures.gone
+
+pub returns-clause-frames : goal.returns-clause-frames
+returns-clause-frames g c =
+    let mid = c.drop_translation.new.world.store in
+    freed-frames mid c.free_next.new.world.store (next_name mid) c.free_next.ensures.store
+    ∙ gathered-frames c.args.world.now.store mid (option_map told_of (translation_at c.args.world.now.hat.places c.args.space c.args.page)) c.drop_translation.ensures.store
 
 pub returns-clause-absent : goal.returns-clause-absent
 returns-clause-absent g c = λ page none. c.free_next.ensures.absent page (c.drop_translation.ensures.stay page ∙ none)

@@ -1,5 +1,6 @@
 use Rattle.std.proofs.Common.{◌∙◌}
 use Rattle.seg_ops.specs.vm_world.World.{world_seen}
+use Rattle.seg_ops.specs.Copies.{copied_bytes}
 use Rattle.seg_vn.proofs.Copies.{changes-got, changes-held}
 use Rattle.seg_vn.proofs.SlotsDue.{gives-new, gives-other}
 use Rattle.seg_vn.proofs.copy_faults.copy_into.Goals as goal
@@ -11,7 +12,7 @@ returns-in-None-clause-own g c = record {
   made = c.make_copy.ensures.made;
   memory = λ spaces p q x fits owns unloaded. (c.make_copy.ensures.changes spaces p q x fits owns unloaded).memory;
   changes = λ spaces p q x fits owns unloaded free shows.
-      changes-got (world_seen c.args.world.now) (world_seen c.make_copy.new.world) spaces p q c.args.own.map c.args.own.place x fits owns free c.args.bytes.now (λ none. shows c.in-None.is)
+      changes-got (world_seen c.args.world.now) (world_seen c.make_copy.new.world) spaces p q c.args.own.map c.args.own.place x fits owns free (copied_bytes c.args.world.now.store c.args.front) (λ none. shows c.in-None.is)
       (c.make_copy.ensures.changes spaces p q x fits owns unloaded);
 }
 

@@ -2,7 +2,7 @@ use Rattle.std.proofs.Common.{◌≡◌, true, false, sym, ◌∙◌, subst}
 use Rattle.seg_ops.specs.flat_model.Words.{Page}
 use Rattle.seg_ops.specs.page_hash.declared.PageName.{PageName}
 use Rattle.seg_ops.specs.vm_world.World.{world_seen}
-use Rattle.seg_ops.specs.Copies.{HasBytes}
+use Rattle.seg_ops.specs.Copies.{HasBytes, copied_bytes}
 use Rattle.seg_ops.proofs.KeptBytes.{unlisted-has}
 use Rattle.step_trials.specs.SlotTrials.{holding_page, holding_segment, holding_spaces}
 use Rattle.step_trials.proofs.SlotTrialLemmas.{holding-changes}
@@ -19,7 +19,8 @@ copy_slot-requires-clause-bytes c =
     let name = c.page_of_slot-name.result in
     let home = sym c.resident.ensures.residence ∙ c.in-Home.is in
     let has = unlisted-has w holding_spaces name c.in-Home.frame c.requires.fits.memory home (λ l. let z : false ≡ true = sym c.if-listed.false ∙ c.listed.ensures.1 l in cc) in
-    subst (λ (n : PageName). HasBytes w n c.bytes_kept-bytes.result) c.page_of_slot-name.ensures (subst (λ (b : Page). HasBytes w name b) (sym c.bytes_kept-bytes.ensures) has)
+    let bytes = copied_bytes w.store c.front_kept-front.result in
+    subst (λ (n : PageName). HasBytes w n bytes) c.page_of_slot-name.ensures (subst (λ (b : Page). HasBytes w name b) (sym c.front_kept-front.ensures.bytes) has)
 
 pub returns-else-listed : goal.returns-else-listed
 returns-else-listed c =
