@@ -1,9 +1,11 @@
 //! Words through translations: the hot path. An access is one look for the translation, in which it is noted, and one word.
-ghost use Rattle.std.specs.Prelude.{◌≡◌, ℕ, ◌%◌, true, false, IfSome, IfNone};
-ghost use Rattle.vm_world.specs.flat_model.Words.{page};
+ghost use Rattle.std.specs.Prelude.{◌≡◌, ◌≤◌, ℕ, ◌+◌, ◌%◌, true, false, IfSome, IfNone};
+ghost use Rattle.page_store.specs.page_hash.declared.PageName.{PageName};
+ghost use Rattle.vm_world.specs.flat_model.Words.{page, word_bytes};
 ghost use Rattle.vm_world.specs.hat_layer.Pool.{IsNoted, frame_for, after_access, change_at, change_page, translation_at};
-ghost use Rattle.page_store.specs.Laws.{SameResidence};
-ghost use Rattle.page_store.specs.Seen.{residence};
+ghost use Rattle.page_store.specs.Laws.{Pokes, SameResidence};
+ghost use Rattle.page_store.specs.Seen.{IsListedFrame, residence};
+ghost use Rattle.page_store.specs.Steps.{with_piece};
 ghost use Rattle.vm_world.specs.vm_types.Words.{IsWordSize, FitsWord};
 ghost use Rattle.vm_world.specs.Segments.{Spaces};
 ghost use Rattle.vm_world.specs.Serving.{ModifiesNone, ModifiesOnly};
@@ -11,8 +13,8 @@ ghost use Rattle.vm_world.specs.Words.{Fits, IsFit, KeepsEveryPage, OnlyStore, O
 ghost use Rattle.vm_world.specs.World.{world_seen};
 ghost use Rattle.seg_ops.specs.Steps.{ReadsWord, WritesWord};
 
-use page_store::{Disk, Residence};
-use vm_world::{World, word_at, word_bytes};
+use page_store::{Disk, PageName, Residence, Store};
+use vm_world::{World, word_at};
 
 /// Notes an access to a page, and answers the frame that it goes to: where the page has a translation that lets it. None
 /// exactly otherwise. Constant expected time: one look for the translation.
@@ -69,8 +71,28 @@ pub fn write<D: Disk>(world: &mut World<D>, frame: u32, addr: u32, size: u32, va
     ensures stay { SameResidence world.old.store world.new.store }
     ensures modified { ModifiesNone (world_seen world.old) (world_seen world.new) }
 {
-    let word = word_bytes(size, value);
-    world
-        .store
-        .poke_frame(frame, addr % 4096, word.bytes(), false);
+    put_word(&mut world.store, frame, addr % 4096, size, value);
+}
+
+// Puts a word over the bytes of the page that is home in a frame, from byte `at` of the page on. It is in an arm for each size, so that
+// its bytes are written at once.
+#[inline(always)]
+fn put_word<D: Disk>(store: &mut Store<D>, frame: u32, at: u32, size: u32, value: u32)
+    requires size { IsWordSize size }
+    requires word { FitsWord size value }
+    requires within { at + size ≤ 4096 }
+    requires home { (name : PageName) × (residence store.old name ≡ Residence.Home frame) }
+    requires unlisted { ¬ IsListedFrame store.old frame }
+    // The word's bytes are there.
+    ensures new { store.new ≡ with_piece store.old frame at (word_bytes size value) false }
+    ensures laws { (name : PageName) → residence store.old name ≡ Residence.Home frame
+        → Pokes store.old store.new name at (word_bytes size value) }
+{
+    let bytes = value.to_be_bytes();
+    match size {
+        1 => store.poke_frame(frame, at, &bytes[3..], false),
+        2 => store.poke_frame(frame, at, &bytes[2..], false),
+        4 => store.poke_frame(frame, at, &bytes, false),
+        _ => unreachable!(),
+    }
 }
