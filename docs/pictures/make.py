@@ -222,7 +222,7 @@ SAYS = {
     'vm_world': "state's meaning", 'page_store': 'pages by name', 'anon_slots': 'counts', 'anon_map': 'arrays', 'hat_layer': 'translations',
     'addr_space': 'pieces', 'core_arena': 'frames', 'page_hash': 'names', 'page_lists': 'free, cached', 'page_lock': 'holders, bits',
     'page_clock': 'two hands', 'disk_file': 'a file as disk', 'disk_stripe': 'turn by turn', 'disk_mirror': 'each on both',
-    'block_device': 'disks, streams', 'hash_chains': 'chains', 'swap_slots': 'least free', 'flat_model': 'what it means',
+    'block_device': 'disks, streams', 'filled': 'equal items', 'hash_chains': 'chains', 'swap_slots': 'least free', 'flat_model': 'what it means',
     'flat_state': 'kept plainly', 'vnode_files': 'extents', 'vm_types': 'calls, replies', 'zero_objects': 'by number',
     'disk_marks': 'what blocks have', 'mark_laws': 'true marks',
     'volume_files': 'mounted files', 'command_line': 'words', 'vm_run': 'one run', 'joined_disk': 'two as one', 'volume_disks': 'one or two',

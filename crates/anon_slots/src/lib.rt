@@ -6,6 +6,7 @@ ghost use Rattle.std.specs.Prelude.{◌≡◌, ◌+◌, ◌-◌, ◌^◌, ◌<�
 ghost use Rattle.std.specs.Bool.{OnTrue, OnFalse};
 ghost use Rattle.anon_slots.specs.Slots.{AnonSlotsSeen, unused_slots, slots_in_use, count_at, IsHeldSlot, IsSoundAnonSlots, with_count, with_new_slot};
 
+use filled::filled;
 use std::alloc::{AllocError, Global};
 use std::marker::Model;
 use swap_slots::SwapSlots;
@@ -48,8 +49,8 @@ impl AnonSlots {
         ensures sound { IfOk result IsSoundAnonSlots }
     {
         let area = SwapSlots::new(alloc, slots)?;
-        let counts = vec![in alloc; 0u32; slots as usize]?;
-        let swapped = vec![in alloc; false; slots as usize]?;
+        let counts = filled(alloc, 0u32, slots as usize)?;
+        let swapped = filled(alloc, false, slots as usize)?;
         Ok(AnonSlots {
             area,
             counts,

@@ -183,10 +183,19 @@ impl Drop for Core {
     }
 }
 
+// The bytes that are made zeros at once. The C library writes so many by vectors; more of them it writes by an instruction that takes
+// long to begin, and that is counted once a byte.
+const PIECE_BYTES: usize = 2048;
+
 fn zero_bytes(alloc: Global, size: usize) -> Result<Vec<u8>, OutOfMemory>
     ensures { IfOk result (λ bytes. bytes.items ≡ replicate size 0) }
 {
-    vec![in alloc; 0; size]
+    let mut bytes = Vec::with_capacity(alloc, size)?;
+    while bytes.len() < size {
+        let more = usize::min(size - bytes.len(), PIECE_BYTES);
+        bytes.resize(bytes.len() + more, 0)?;
+    }
+    Ok(bytes)
 }
 
 /// Whether all pages are home.

@@ -9,6 +9,7 @@ ghost use Rattle.std.specs.Prelude.{◌≡◌, ℕ, ◌<◌, ◌∷◌, [], leng
 ghost use Rattle.hash_chains.specs.Order.{AreSeparate, chain_at, is_among, first_in, after_in, without_place};
 ghost use Rattle.hash_chains.specs.Links.{before_in, heads_led, next_led};
 
+use filled::filled;
 pub use slots::slot_of_pair;
 use std::alloc::{AllocError, Global};
 use std::marker::Model;
@@ -40,8 +41,8 @@ impl Chains {
         ensures apart { IfOk result (λ c. AreSeparate c.order) }
     {
         Ok(Chains {
-            heads: vec![in alloc; None; chains as usize]?,
-            next: vec![in alloc; None; places as usize]?,
+            heads: filled(alloc, None, chains as usize)?,
+            next: filled(alloc, None, places as usize)?,
         })
     }
 

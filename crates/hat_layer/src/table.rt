@@ -5,6 +5,7 @@ ghost use Rattle.hash_chains.specs.Order.{HaveOwners};
 ghost use Rattle.hat_layer.specs.Table.{FindsPlace, FindsHeld, SameName, LeadsToFrame};
 
 use crate::translation::Translation;
+use filled::filled;
 use hash_chains::{Chains, slot_of_pair};
 use std::alloc::{AllocError, Global};
 use std::marker::Model;
@@ -58,7 +59,7 @@ impl TranslationTable {
         ensures frames { IfOk result (λ t. t.frames ≡ frames) }
     {
         Ok(TranslationTable {
-            cells: vec![in alloc; None; places as usize]?,
+            cells: filled(alloc, None, places as usize)?,
             by_page: Chains::new(alloc, places, places)?,
             by_frame: Chains::new(alloc, frames, places)?,
             slots: places,

@@ -8,6 +8,7 @@ ghost use Rattle.std.specs.Prelude.{◌≡◌, ◌≢◌, ℕ, ◌+◌, ◌<◌,
 ghost use Rattle.page_hash.specs.Names.{name_at, is_name, find, without_name, AreDistinct};
 ghost use Rattle.page_hash.specs.Index.{Finds};
 
+use filled::filled;
 use hash_chains::{Chains, slot_of_pair};
 use std::alloc::{AllocError, Global};
 use std::marker::Model;
@@ -60,7 +61,7 @@ impl PageHash {
     {
         let slots = if frames == 0 { 1 } else { frames };
         Ok(PageHash {
-            names: vec![in alloc; None; frames as usize]?,
+            names: filled(alloc, None, frames as usize)?,
             chains: Chains::new(alloc, slots, frames)?,
             slots,
         })

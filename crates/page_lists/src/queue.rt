@@ -5,6 +5,7 @@ ghost use Rattle.std.specs.Option.{ForSome};
 ghost use Rattle.page_lists.specs.ListsSeen.{first_listed, without_frame};
 ghost use Rattle.page_lists.specs.Ring.{QueueSeen, IsQueue, follow};
 
+use filled::filled;
 use std::alloc::{AllocError, Global};
 use std::marker::Model;
 
@@ -52,9 +53,9 @@ impl FrameQueue {
         Ok(FrameQueue {
             first: None,
             last: None,
-            next: vec![in alloc; None; count]?,
-            previous: vec![in alloc; None; count]?,
-            listed: vec![in alloc; false; count]?,
+            next: filled(alloc, None, count)?,
+            previous: filled(alloc, None, count)?,
+            listed: filled(alloc, false, count)?,
         })
     }
 

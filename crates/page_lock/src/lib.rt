@@ -4,6 +4,7 @@
 ghost use Rattle.std.specs.Prelude.{◌≡◌, ◌+◌, ◌-◌, ◌^◌, ◌<◌, true, false, Some, None, IsSome, IfOk, nat_lt, length, replicate, slice_set};
 ghost use Rattle.page_lock.specs.Rows.{row_at, clear_row, with_bits};
 
+use filled::filled;
 use std::alloc::{AllocError, Global};
 use std::marker::Model;
 
@@ -66,7 +67,7 @@ impl PageLocks {
         ensures { IfOk result (λ locks. locks ≡ replicate frames clear_row) }
     {
         Ok(PageLocks {
-            rows: vec![in alloc; Row::CLEAR; frames as usize]?,
+            rows: filled(alloc, Row::CLEAR, frames as usize)?,
         })
     }
 

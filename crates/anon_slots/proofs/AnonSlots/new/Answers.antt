@@ -4,5 +4,5 @@ use Rattle.anon_slots.proofs.AnonSlots.new.Goals as goal
 
 pub invariant_of-result : goal.invariant_of-result
 invariant_of-result c =
-    rw (c.in_ok-area.ensures, c.in_ok-counts.ensures.items_if_clones_equal (λ y same. same), c.in_ok-swapped.ensures.items_if_clones_equal (λ y same. same))
+    rw (c.in_ok-area.ensures, c.in_ok-counts.ensures, c.in_ok-swapped.ensures)
     (kept_none c.args.slots (omega arith))
