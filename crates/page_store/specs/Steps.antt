@@ -1,5 +1,5 @@
 -- What the calls make of a store. Public clauses cite this.
-use Rattle.std.specs.Prelude.{ℕ, ◌++◌, ◌||◌, [], ◌∷◌, Bool, true, false, if◌then◌else◌, List, Option, Some, None, unwrap_or, slice_set}
+use Rattle.std.specs.Prelude.{ℕ, ◌++◌, [], ◌∷◌, Bool, true, false, if◌then◌else◌, List, Option, Some, None, unwrap_or, slice_set}
 use Rattle.core_arena.specs.Bytes.{bytes_at, bytes_with_piece}
 use Rattle.page_hash.specs.Names.{name_at, find}
 use Rattle.page_hash.specs.declared.PageName.{PageName}

@@ -1,5 +1,5 @@
 //! The frame tables together: a frame that is taken for a name, or comes free.
-ghost use Rattle.std.specs.Prelude.{◌≡◌, ◌≢◌, ℕ, ◌<◌, ◌≤◌, true, false, length, Some, None, IsSome, option_map, slice_set};
+ghost use Rattle.std.specs.Prelude.{◌≡◌, ◌≢◌, ℕ, ◌<◌, ◌≤◌, ◌++◌, true, false, length, replicate, drop, Some, None, IsSome, option_map, slice_set};
 ghost use Rattle.core_arena.specs.Bytes.{bytes_at, zeros};
 ghost use Rattle.page_hash.specs.Names.{find, AreDistinct};
 ghost use Rattle.page_lists.specs.ListsSeen.{AreApart, first_listed};
@@ -192,5 +192,27 @@ pub(crate) fn zero_frame(core: &mut Core, frame: u32)
     requires { IsSome (bytes_at core.old.frames frame) }
     ensures { core.new ≡ record core.old { frames = slice_set core.old.frames frame (Some zeros) } }
 {
-    core.bytes_mut(frame).fill(0);
+    clear_page(core.bytes_mut(frame));
+}
+
+// The halves are written one by one: the C library writes so many zeros by vectors, and more of them by an instruction that takes long to begin
+// and that is counted once a byte.
+fn clear_page(page: &mut [u8])
+    requires { length page.old ≡ 4096 }
+    ensures { page.new ≡ zeros }
+{
+    clear_front(page);
+    cut_at(page, HALF);
+}
+
+const HALF: usize = 2048;
+
+// Makes the first half of a page zeros. It is never in line, so that the two halves aren't made one.
+#[inline(never)]
+fn clear_front(page: &mut [u8])
+    requires { length page.old ≡ 4096 }
+    ensures size { length page.new ≡ 4096 }
+    ensures front { page.new ≡ replicate 2048 0 ++ drop 2048 page.old }
+{
+    page[..HALF].fill(0);
 }
