@@ -1,10 +1,10 @@
 -- What is seen of a mirror: on which disks each block is fresh, what the mirror tells and counts, and what its
 -- transfers ask of its disks. Public clauses cite this.
-use Rattle.std.specs.Prelude.{ℕ, ◌≡◌, ◌<◌, ◌+◌, ◌⊎◌, Bool, true, false, ◌||◌, ◌&&◌, IsTrue, IsFalse, List, [], map, length, replicate, slice_index_or, slice_set, Option, Result, Ok, Err, OnErr, is_ok, is_err, if◌then◌else◌}
+use Rattle.std.specs.Prelude.{ℕ, ◌≡◌, ◌<◌, ◌+◌, ◌⊎◌, Bool, true, false, ◌||◌, ◌&&◌, IsTrue, IsFalse, List, [], map, length, replicate, slice_index_or, slice_set, Option, Result, Ok, Err, OnErr, OnOk, is_ok, is_err, if◌then◌else◌}
 use Rattle.std.specs.Option.{ForSome}
 use Rattle.std.specs.List.{range_with_len}
 use Rattle.block_device.specs.Counts.{HasRisen}
-use Rattle.block_device.specs.DiskSeen.{DiskKind, DiskSeen, Reads, Writes}
+use Rattle.block_device.specs.DiskSeen.{DiskKind, DiskSeen, Reads, Writes, failures_told}
 use Rattle.block_device.specs.declared.disk.Failed.{Failed}
 use Rattle.block_device.specs.Joins.{count_sum, content_of_both}
 
@@ -76,12 +76,15 @@ pub record ReadsFirst {D : Type 0} (seen : D → DiskSeen) (old new : MirrorSeen
   pub marks_b : new.fresh_b ≡ old.fresh_b
 
 -- What a read of a block asks. A disk where the block isn't fresh isn't asked. The second is asked only where the
--- block isn't fresh on the first, or the first failed in this call. It fails only where each disk failed in this
--- call where the block is fresh. And each block is fresh where it was.
+-- block isn't fresh on the first, or the first failed in this call. Where it goes well, the second was asked if the
+-- first counted a failure in this call, and counted none. It fails only where each disk failed in this call where
+-- the block is fresh. And each block is fresh where it was.
 pub record AsksFresh {D E : Type 0} (seen : D → DiskSeen) (old new : MirrorSeen D) (block : ℕ) (result : Result (Unit {0}) E) : Type 0 where
   pub stale_a : IsFalse (is_fresh old.fresh_a block) → new.a ≡ old.a
   pub stale_b : IsFalse (is_fresh old.fresh_b block) → new.b ≡ old.b
   pub order : IsTrue (is_fresh old.fresh_a block) → (new.b ≡ old.b) ⊎ HasRisen (seen old.a).faults (seen new.a).faults
+  pub then_b : OnOk result ((failures_told (seen new.a) ≡ failures_told (seen old.a)) ⊎ HasRisen (seen old.b).calls (seen new.b).calls)
+  pub steady_b : OnOk result (failures_told (seen new.b) ≡ failures_told (seen old.b))
   pub failed_a : OnErr result (IsTrue (is_fresh old.fresh_a block) → HasRisen (seen old.a).faults (seen new.a).faults)
   pub failed_b : OnErr result (IsTrue (is_fresh old.fresh_b block) → HasRisen (seen old.b).faults (seen new.b).faults)
   pub marks_a : new.fresh_a ≡ old.fresh_a
