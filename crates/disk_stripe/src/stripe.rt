@@ -4,7 +4,7 @@ ghost use Rattle.std.specs.Prelude.{◌≡◌, ◌<◌, ◌^◌};
 use block_device::{Disk, Failed};
 
 /// Two disks of as many blocks as one disk: its even blocks lie on the first, its odd ones on the second, in
-/// order. A transfer asks one of the two, once.
+/// order. A transfer asks one of the two.
 #[derive(Drop)]
 pub struct Stripe<D: Disk> {
     a: D,
