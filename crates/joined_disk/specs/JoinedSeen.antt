@@ -1,10 +1,10 @@
 -- What is seen of a disk that stands for one disk or for two. Public clauses cite this.
-use Rattle.std.specs.Prelude.{◌≡◌, ◌⊎◌, Bool, true, false, List, length, Option, Some, None}
-use Rattle.disk_stripe.specs.block_device.DiskSeen.{DiskSeen}
+use Rattle.std.specs.Prelude.{ℕ, ◌≡◌, ◌⊎◌, Bool, true, false, List, length, Option, Some, None, Result}
+use Rattle.disk_stripe.specs.block_device.DiskSeen.{DiskSeen, Reads, Writes}
 use Rattle.disk_stripe.specs.StripeLook.{stripe_disks}
-use Rattle.disk_stripe.specs.StripeSeen.{stripe_seen, stripe_seen_by}
+use Rattle.disk_stripe.specs.StripeSeen.{ReadsOne, WritesOne, stripe_seen, stripe_seen_by}
 use Rattle.disk_mirror.specs.MirrorLook.{mirror_look}
-use Rattle.disk_mirror.specs.MirrorSeen.{HasFreshSide, SameWhereFresh, mirror_disk, mirror_seen, new_mirror}
+use Rattle.disk_mirror.specs.MirrorSeen.{AsksFresh, HasFreshSide, SameWhereFresh, WritesBoth, mirror_disk, mirror_seen, new_mirror}
 use Rattle.joined_disk.specs.declared.joined.JoinedDisk.{JoinedDisk}
 use Rattle.joined_disk.specs.declared.joined.JoinedDisk.TheVariants.{Plain, Striped, Mirrored}
 
@@ -26,6 +26,20 @@ StandsFor seen a None mirror (Plain d) = d ≡ a
 StandsFor seen a (Some b) false (Striped s) = stripe_disks s.value ≡ (a, b)
 StandsFor seen a (Some b) true (Mirrored m) = mirror_look m.value ≡ new_mirror a b (seen a).size
 StandsFor seen a b mirror d = ⊥
+
+-- What a read of a block asks: the disk that it is; of a stripe's, the one where the block lies; or of a mirror's, those where the block is fresh.
+abbrev pub AsksToRead : {D E : Type 0} {disk : _} → (D → DiskSeen) → JoinedDisk D disk → JoinedDisk D disk → ℕ → List ℕ → Result (Unit {0}) E → Type 0
+AsksToRead seen (Plain d) (Plain e) block into result = Reads (seen d) (seen e) block into result
+AsksToRead seen (Striped s) (Striped t) block into result = ReadsOne seen (stripe_disks s.value) (stripe_disks t.value) block into result
+AsksToRead seen (Mirrored m) (Mirrored n) block into result = AsksFresh seen (mirror_look m.value) (mirror_look n.value) block result
+AsksToRead seen old new block into result = ⊥
+
+-- What a write of a block asks: the disk that it is; of a stripe's, the one where the block lies; or both of a mirror's.
+abbrev pub AsksToWrite : {D E : Type 0} {disk : _} → (D → DiskSeen) → JoinedDisk D disk → JoinedDisk D disk → ℕ → List ℕ → Result (Unit {0}) E → Type 0
+AsksToWrite seen (Plain d) (Plain e) block from result = Writes (seen d) (seen e) block from result
+AsksToWrite seen (Striped s) (Striped t) block from result = WritesOne seen (stripe_disks s.value) (stripe_disks t.value) block from result
+AsksToWrite seen (Mirrored m) (Mirrored n) block from result = WritesBoth seen (mirror_look m.value) (mirror_look n.value) block from result
+AsksToWrite seen old new block from result = ⊥
 
 -- A mirror of two disks, as it is seen by what is seen of them: each of its blocks is fresh on one of them, and is that one's block.
 pub record IsMirrorOf (a b disk : DiskSeen) : Type 0 where

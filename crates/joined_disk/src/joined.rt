@@ -1,5 +1,5 @@
 //! A disk that stands for one disk, or for two.
-ghost use Rattle.std.specs.Prelude.{◌≡◌, IfOk, IfErr};
+ghost use Rattle.std.specs.Prelude.{◌≡◌, IfOk, IfErr, OnErr};
 
 use disk_mirror::Mirror;
 use disk_stripe::{Disk, Failed, Pairing, Stripe};
@@ -39,9 +39,11 @@ impl<D: Disk> JoinedDisk<D> {
 }
 
 impl<D: Disk> Disk for JoinedDisk<D> {
+    ghost use Rattle.std.specs.Prelude.{◌<◌, length};
+    ghost use Rattle.disk_stripe.specs.block_device.DiskSeen.{Reads, Writes};
     ghost use Rattle.disk_stripe.specs.StripeLook.{blocks_of_stripe};
     ghost use Rattle.disk_mirror.specs.MirrorLook.{blocks_of_mirror};
-    ghost use Rattle.joined_disk.specs.JoinedSeen.{joined_seen};
+    ghost use Rattle.joined_disk.specs.JoinedSeen.{AsksToRead, AsksToWrite, joined_seen};
     ghost use Rattle.joined_disk.specs.declared.joined.JoinedDisk.TheVariants.{Plain, Striped, Mirrored};
 
     ghost seen = { joined_seen D.seen };
@@ -70,7 +72,14 @@ impl<D: Disk> Disk for JoinedDisk<D> {
         }
     }
 
-    fn read(&mut self, block: u32, into: &mut [u8]) -> Result<(), Failed> {
+    fn read(&mut self, block: u32, into: &mut [u8]) -> Result<(), Failed>
+        requires block { block < (joined_seen D.seen self.old).size }
+        requires size { length into.old ≡ 4096 }
+        ensures reads { Reads (joined_seen D.seen self.old) (joined_seen D.seen self.new)
+            block into.new result }
+        // The disk is asked that it is, or of two those that a stripe or a mirror asks.
+        ensures asks { AsksToRead D.seen self.old self.new block into.new result }
+    {
         match self {
             JoinedDisk::Plain(disk) => disk.read(block, into),
             JoinedDisk::Striped(stripe) => stripe.read(block, into),
@@ -78,7 +87,14 @@ impl<D: Disk> Disk for JoinedDisk<D> {
         }
     }
 
-    fn write(&mut self, block: u32, from: &[u8]) -> Result<(), Failed> {
+    fn write(&mut self, block: u32, from: &[u8]) -> Result<(), Failed>
+        requires block { block < (joined_seen D.seen self.old).size }
+        requires size { length from.now ≡ 4096 }
+        ensures writes { Writes (joined_seen D.seen self.old) (joined_seen D.seen self.new)
+            block from.now result }
+        // The disk is asked that it is, or of two those that a stripe or a mirror asks.
+        ensures asks { AsksToWrite D.seen self.old self.new block from.now result }
+    {
         match self {
             JoinedDisk::Plain(disk) => disk.write(block, from),
             JoinedDisk::Striped(stripe) => stripe.write(block, from),
@@ -94,7 +110,7 @@ impl<D: Disk> Disk for JoinedDisk<D> {
 }
 
 impl<D: Disk> Pairing<D> for JoinedDisk<D> {
-    ghost use Rattle.std.specs.Prelude.{false, None};
+    ghost use Rattle.std.specs.Prelude.{false, None, IsSome};
     ghost use Rattle.disk_stripe.specs.block_device.Pairs.{CanPair};
     ghost use Rattle.joined_disk.specs.JoinedSeen.{StandsFor};
 
@@ -109,6 +125,8 @@ impl<D: Disk> Pairing<D> for JoinedDisk<D> {
         requires { CanPair D.seen a b mirror }
         ensures pair { IfOk result (StandsFor D.seen a b mirror) }
         ensures back { IfErr result (λ disks. disks ≡ (a, b)) }
+        // One disk takes no memory.
+        ensures two { OnErr result (IsSome b) }
     {
         let Some(b) = b else {
             return Ok(JoinedDisk::Plain(a));
