@@ -47,6 +47,7 @@ impl<T> Model for Ranges<T> {
 }
 
 // How many spans at the front begin below the bound.
+#[inline(always)]
 fn count_below(spans: &Vec<Span>, bound: u64) -> usize
     requires { SpansRise 1 spans.now.items }
     ensures { result ≡ count_below bound spans.now.items }
@@ -55,6 +56,7 @@ fn count_below(spans: &Vec<Span>, bound: u64) -> usize
 }
 
 // The place of the span that has the page.
+#[inline(always)]
 fn place_of(spans: &Vec<Span>, page: u32) -> Option<usize>
     requires { SpansRise 1 spans.now.items }
     ensures { FindsHolder spans.now.items page result }
@@ -153,6 +155,7 @@ impl<T> Ranges<T> {
     /// The first page of the piece that has this page, its number of pages, and the piece.
     ///
     /// Time: the logarithm of the number of pieces.
+    #[inline(always)]
     pub fn find(&self, page: u32) -> Option<(u32, u32, &T)>
         ensures found { MatchOption result (part_at self.now.parts page ≡ None)
             (λ r. part_at self.now.parts page ≡ Some (part r.0 r.1 r.2.now)) }

@@ -12,7 +12,7 @@ use Rattle.hash_chains.proofs.LinkLemmas.{at-replicate}
 use Rattle.hash_chains.proofs.WalkLaws.{IsOn, walk-start, first-none}
 use Rattle.hash_chains.proofs.OwnerLaws.{some-within, nones, owners-none, free-off, owner-is, owned-on, owners-linked, owners-unlinked}
 use Rattle.hat_layer.specs.Pool.{holds, is_of, frame_of, IsSingleValued, with_clear_bits, change_lead, change_frame}
-use Rattle.hat_layer.specs.Table.{slot_at, LeadsToFrame, FindsPlace, FindsHeld, SameName, IsSoundTable}
+use Rattle.hat_layer.specs.Table.{slot_at, LeadsToFrame, SameName, IsSoundTable}
 
 frame-is : (o : Option Translation) (frame : ℕ) → frame_of o ≡ Some frame → (t : Translation) × (o ≡ Some t) × (t.frame ≡ frame)
 frame-is None frame e = let z : None ≡ Some frame = e in cc

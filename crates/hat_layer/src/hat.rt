@@ -143,16 +143,6 @@ fn told_of(old: Translation) -> Dropped
     }
 }
 
-fn after_access(old: Translation, write: bool) -> Translation
-    ensures { result ≡ after_access write old }
-{
-    Translation {
-        referenced: true,
-        modified: old.modified || write,
-        ..old
-    }
-}
-
 // Whether a translation lets a load, or a store.
 fn lets_access(held: Translation, write: bool) -> bool
     ensures { result ≡ lets_access write held }
@@ -245,6 +235,7 @@ impl Hat {
 
     /// Notes an access, and answers the frame that it goes to: where the page has a translation that
     /// lets it, for a store a writable one. None exactly otherwise. Constant expected time: one look.
+    #[inline(always)]
     pub fn frame_for(&mut self, space: u32, page: u32, write: bool) -> Option<u32>
         ensures frame { result ≡ frame_for self.old.places space page write }
         // It is noted, ..
@@ -264,7 +255,7 @@ impl Hat {
         if !lets_access(old, write) {
             return None;
         }
-        self.table.change(place, old, after_access(old, write));
+        self.table.note(place, old, write);
         Some(old.frame)
     }
 

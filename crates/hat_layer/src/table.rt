@@ -1,6 +1,6 @@
 //! A pool of translations that are found by page and by frame.
 ghost use Rattle.std.specs.Prelude.{◌≡◌, ℕ, ◌<◌, ◌≤◌, length, replicate, true, false, Option, Some, None, IfOk, slice_set, slice_index_or, option_map, map, is_some};
-ghost use Rattle.hat_layer.specs.Pool.{holds, frame_of, IsSingleValued, bits_of, change_frame, with_clear_bits};
+ghost use Rattle.hat_layer.specs.Pool.{holds, frame_of, IsSingleValued, bits_of, change_frame, with_clear_bits, after_access};
 ghost use Rattle.hash_chains.specs.Order.{HaveOwners};
 ghost use Rattle.hat_layer.specs.Table.{FindsPlace, FindsHeld, SameName, LeadsToFrame};
 
@@ -51,6 +51,19 @@ fn holds(cell: Option<Translation>, space: u32, page: u32) -> bool
     }
 }
 
+// Notes an access in the translation of a cell.
+#[inline(always)]
+fn note_in(cell: &mut Option<Translation>, write: bool)
+    ensures { cell.new ≡ option_map (after_access write) cell.old }
+{
+    if let Some(held) = cell {
+        held.referenced = true;
+        if write {
+            held.modified = true;
+        }
+    }
+}
+
 impl TranslationTable {
     /// That many empty places, for translations to frames below this number.
     pub fn new(alloc: Global, places: u32, frames: u32) -> Result<TranslationTable, AllocError>
@@ -67,6 +80,7 @@ impl TranslationTable {
     }
 
     // The place of a page's translation, in constant expected time.
+    #[inline(always)]
     fn place_of(&self, space: u32, page: u32) -> Option<u32>
         ensures found { FindsPlace self.now.places space page result }
         ensures distinct { IsSingleValued self.now.places }
@@ -91,6 +105,7 @@ impl TranslationTable {
     }
 
     /// A page's translation and its place, in constant expected time.
+    #[inline(always)]
     pub fn held(&self, space: u32, page: u32) -> Option<(u32, Translation)>
         ensures found { FindsHeld self.now.places space page result }
         ensures distinct { IsSingleValued self.now.places }
@@ -163,6 +178,21 @@ impl TranslationTable {
     {
         self.cells[place as usize] = Some(new);
     }
+
+    /// Notes an access in the translation at a place, where it stands: no translation is moved.
+    #[inline(always)]
+    pub fn note(&mut self, place: u32, old: Translation, write: bool)
+        requires { slice_index_or self.old.places place None ≡ Some old }
+        // What it leaves.
+        ensures places { self.new.places
+            ≡ slice_set self.old.places place (Some (after_access write old)) }
+        ensures frames { self.new.frames ≡ self.old.frames }
+        ensures distinct { IsSingleValued self.new.places }
+    {
+        note_in(&mut self.cells[place as usize], write);
+        let _ = old;
+    }
+
     /// Clears the bits of all translations of a frame, and answers whether one was referenced,
     /// modified. Time: the frame's translations.
     pub fn clear_bits(&mut self, frame: u32) -> (bool, bool)

@@ -1,4 +1,4 @@
-use Rattle.std.proofs.Common.{◌≡◌, Bool, cond, Option, Some, None, List, sym, ◌∙◌, ap, subst, set, refl}
+use Rattle.std.proofs.Common.{◌≡◌, Bool, cond, Option, Some, None, List, sym, ◌∙◌, ap, subst, refl}
 use Rattle.std.specs.Prelude.{option_map}
 use Rattle.hat_layer.specs.declared.translation.Translation.{Translation}
 use Rattle.hat_layer.specs.Pool.{HatSeen, frame_let, frame_for, after_access, change_at, translation_at, IsSingleValued}
@@ -33,7 +33,7 @@ pub returns-clause-places : goal.returns-clause-places
 returns-clause-places c =
     let v = ap (λ (p : HatSeen). p.places) c.self.view_is in
     let h = c.in_ok-place.ensures.found in
-    c.change.ensures.places ∙ ap (λ (t : Translation). set c.self.inside.table.places c.in_ok-place.place (Some t)) c.after_access.ensures
+    c.note.ensures.places
     ∙ sym (ap (λ (p : List (Option Translation)). change_at c.args.space c.args.page (after_access c.args.write) p) (sym v)
     ∙ changes-held (option_map (after_access c.args.write)) c.self.inside.table.places c.args.space c.args.page c.in_ok-place.place c.in_ok-place.old h.0 h.1 h.2)
 
@@ -44,5 +44,5 @@ returns-clause-map c = λ s p. ap (λ (l : List (Option Translation)). translati
 
 pub returns-clause-noted : goal.returns-clause-noted
 returns-clause-noted c =
-    noted-access c.args.self.now.places c.change.new.self.places c.args.space c.args.page c.args.write c.in_ok-place.old
+    noted-access c.args.self.now.places c.note.new.self.places c.args.space c.args.page c.args.write c.in_ok-place.old
     (found (goal.at.returns-clause-noted c).After-lets_access) c.in_ok-place.ensures.found.1 (sym c.lets_access.ensures ∙ c.if-not-lets_access.false) (returns-clause-map c c.args.space c.args.page)
