@@ -7,7 +7,7 @@ use block_device::{MemDisk, MemRack, Spec, Unopened};
 use joined_disk::JoinedDisk;
 use std::alloc::Global;
 use std::test::Fail;
-use volume_disks::{Unattached, VolumeSpec, VolumeStop, attach_volume};
+use volume_disks::{Single, Unattached, VolumeSpec, VolumeStop, attach_volume};
 
 #[derive(Clone, Copy, PartialEq, Eq, Debug)]
 enum Why {
@@ -78,14 +78,14 @@ fn wanted(blocks: u32, second: Option<(u32, bool)>) -> VolumeSpec
     }
 }
 
-fn number_of(disk: &Option<Unopened<MemDisk>>) -> Option<u32> {
+fn number_of(disk: &Option<Unopened<Single<MemDisk>>>) -> Option<u32> {
     match disk {
         Some(disk) => Some(disk.number()),
         None => None,
     }
 }
 
-fn stopped(back: Unattached<MemDisk>) -> Told {
+fn stopped(back: Unattached<Single<MemDisk>>) -> Told {
     let why = match &back.why {
         VolumeStop::Memory => Why::Memory,
         VolumeStop::Failed(fault) => Why::Rack(fault.disk()),
@@ -99,11 +99,8 @@ fn stopped(back: Unattached<MemDisk>) -> Told {
 fn attached(alloc: Global, want: Wanted) -> Result<Told, Fail> {
     let (blocks, second, fails_at) = want;
     let mut rack = MemRack::new(alloc, [fails_at].to_vec(alloc)?, Vec::new(alloc));
-    let volume: Result<Unopened<JoinedDisk<MemDisk>>, Unattached<MemDisk>> = attach_volume(
-        alloc,
-        &mut rack,
-        &wanted(blocks, second),
-    );
+    let volume: Result<Unopened<JoinedDisk<Single<MemDisk>>>, Unattached<Single<MemDisk>>> =
+        attach_volume(alloc, &mut rack, &wanted(blocks, second));
     Ok(match volume {
         Ok(volume) => Attached(volume.number(), volume.blocks()),
         Err(back) => stopped(back),

@@ -36,7 +36,8 @@ use Rattle.volume_files.specs.Closed.{SayTables, StoreFiles, flat_bytes, info_at
 use Rattle.vm_run.specs.Course.{IsReady}
 use Rattle.vm_run.specs.Ended.{End, HasLateCause, CountsReach}
 use Rattle.vm_core.specs.vm_world.Events.{IsUnkept}
-use Rattle.volume_files.specs.Handed.{HaveTold, HandsAll, HasSpecSize, block_told, volume_numbers, disk_handed, volumes_of, sizes_of}
+use Rattle.volume_files.proofs.DiskCounts.{counts-kinds, kinds-written}
+use Rattle.volume_files.specs.Handed.{kinds_of, HaveTold, HandsAll, HasSpecSize, block_told, volume_numbers, disk_handed, volumes_of, sizes_of}
 use Rattle.volume_files.specs.Opened.{IsVolumeAttached, OpenedFile, infos_of, names_of, opening_flat, setup_volumes, stored_bytes, volume_number}
 use Rattle.vm_run.specs.OnDisks.{AreUnkeptGiven, HoldFronts}
 use Rattle.vm_run.specs.Played.{IsStarted, KernelLeaves, LeftSeen, IsDiskOf}
@@ -158,6 +159,7 @@ module _ (st : ℕ) (ft : Option RunFault) (g : Given) (what : Asked) (files : L
           let y = in-map (λ (p : ℕ × DiskSeen). p.1.size) a.disks i x.0.1.size (ap (λ (z : List ℕ). slice_get z i) (sym sizes-old) ∙ size-at new i x.0 x.1) in
           subst (HasSpecSize sp) x.2 (spec-size sp y.0.1 x.0.1 (sym y.2) (ready.placed.handed.each.1 i sp y.0.1 si (at-map (λ (p : ℕ × DiskSeen). p.1) a.disks i y.0 y.1))),
     );
+    counts = counts-kinds new a.disks (kinds-written l.disks new w ∙ left.disks.kinds ∙ ap kinds_of started.racked) ∙ ready.placed.handed.counts;
     first = swap-serves-still (amounts_of what.plan.setup).slots a.swap (opening_flat plan (disk_sizes a.disks) files) s l started.swapped left ready.placed.handed.first;
   }
 

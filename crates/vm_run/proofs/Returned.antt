@@ -85,7 +85,9 @@ swap-back : (slots : ℕ) (old new : Option DiskSeen) → SwapCameBack (bay_of o
 swap-back slots None None same serves = serves
 swap-back slots None (Some d) same serves = absurd (none-some (disk_fixed d) (sym same))
 swap-back slots (Some x) None same serves = absurd (none-some (disk_fixed x) same)
-swap-back slots (Some x) (Some d) same serves = (serves.0, ap (λ (f : FixedOfDisk). f.size) (some-inj (disk_fixed d) (disk_fixed x) same) ∙ serves.1)
+swap-back slots (Some x) (Some d) same serves =
+    let fixed = some-inj (disk_fixed d) (disk_fixed x) same in
+    (serves.0, ap (λ (f : FixedOfDisk). f.size) fixed ∙ serves.1, ap (λ (f : FixedOfDisk). f.kind.members) fixed ∙ serves.2)
 
 pub swap-serves-still : (slots : ℕ) (swap : Option DiskSeen) (F : Flat) (s : KernelState) (l : LeftSeen) → bay_at s.memory.world.store.bays 8 ≡ bay_of swap → KernelLeaves F s l
     → IsSwapFor slots swap → IsSwapFor slots l.swap

@@ -32,6 +32,7 @@ use Rattle.volume_files.specs.Attached.{ArePlaced, AttachedSeen, FileDisksTell, 
 use Rattle.volume_files.specs.Closed.{StoreFiles, info_at}
 use Rattle.vm_run.specs.Course.{AreReadBytes, TraceStops, opening_stop}
 use Rattle.vm_run.specs.Ended.{End, stop_end}
+use Rattle.volume_files.proofs.DiskCounts.{counts-kinds, kinds-read}
 use Rattle.volume_files.specs.Handed.{AreUncounted, HandsAll, HasDiskCause, HasSpecSize, HaveSpecSizes, HaveTold, IsCountedBy, volumes_of, sizes_of, AreWrittenAt, IsSwapAsGiven, block_told}
 use Rattle.volume_files.specs.Opened.{OpenedFile, opened_bytes_at, infos_of, line_files_of, numbered_plan, setup_volumes, stored_bytes}
 use Rattle.volume_files.specs.Written.{infos_made}
@@ -90,7 +91,11 @@ specs-read specs old new r h = (
 )
 
 hands-read : (plan : PlanSeen) (old new : List (ℕ × DiskSeen)) (swap : Option DiskSeen) → AreOnlyRead old new → HandsAll plan (bare_disks old) swap → HandsAll plan (bare_disks new) swap
-hands-read plan old new swap r h = record { each = specs-read (setup_volumes plan.setup) old new r h.each; first = h.first }
+hands-read plan old new swap r h = record {
+  each = specs-read (setup_volumes plan.setup) old new r h.each;
+  counts = counts-kinds new old (kinds-read old new r) ∙ h.counts;
+  first = h.first;
+}
 
 -- disks that were read were written where they were
 written-read : (plan : PlanSeen) (holds : Spec → Option (List (List ℕ))) (lines : List OpenedFile) (old new : List (ℕ × DiskSeen)) (swap swap2 : Option DiskSeen) → AreOnlyRead old new → swap2 ≡ swap

@@ -3,6 +3,7 @@ ghost use Rattle.std.specs.Prelude.{ℕ, ◌≡◌, ◌≤◌, [], List, Ok, IfE
 ghost use Rattle.volume_files.specs.block_device.RackSeen.{RackSeen};
 ghost use Rattle.volume_files.specs.block_device.StreamSeen.{SinkSeen, SourceSeen};
 ghost use Rattle.volume_files.specs.joined_disk.JoinedSeen.{joined_seen};
+ghost use Rattle.volume_files.specs.volume_disks.Singles.{single_seen};
 ghost use Rattle.volume_files.specs.vnode_files.Files.{FilesSeen};
 ghost use Rattle.volume_files.specs.Attached.{AttachedSeen};
 ghost use Rattle.volume_files.specs.Opened.{OpenedFile};
@@ -22,7 +23,7 @@ use printed_traces::counts_law;
 use std::alloc::Global;
 use vm_core::VmState;
 use vm_kernel::starting::Room;
-use volume_files::{Disk, JoinedDisk, Plan, Rack, Sink};
+use volume_files::{Disk, JoinedDisk, Plan, Rack, Single, Sink};
 
 /// A run whose kernel was started.
 #[derive(Drop)]
@@ -44,7 +45,7 @@ pub fn begin_plan<K: Sink, R: Rack>(
     plan: Plan,
     out: &mut K,
     rack: &mut R,
-) -> Result<Begun<JoinedDisk<R::D>>, Stop<JoinedDisk<R::D>>>
+) -> Result<Begun<JoinedDisk<Single<R::D>>>, Stop<JoinedDisk<Single<R::D>>>>
     requires may { MayBeRun (record { options = options; plan = plan }) }
     // It began, and there is room for its disks to be handed back.
     ensures begun { IfOk result (λ b. (b.options ≡ options) × (files : List OpenedFile)
@@ -61,7 +62,7 @@ pub fn begin_plan<K: Sink, R: Rack>(
         → after.faults ≡ before.faults
         → HasStopped g (outside_of before after
         (R.seen rack.old) (R.seen rack.new) (K.seen out.old) (K.seen out.new))
-        (joined_seen R.D.seen) s) }
+        (joined_seen (single_seen R.D.seen)) s) }
 {
     let Ready {
         options,

@@ -2,6 +2,7 @@
 ghost use Rattle.std.specs.Prelude.{ℕ, ◌≡◌, ◌≤◌, ◌<◌, ◌+◌, ◌^◌, List, Option, map, string_bytes, IfOk, IfErr};
 ghost use Rattle.volume_files.specs.block_device.declared.rack.Spec.{Spec};
 ghost use Rattle.volume_files.specs.joined_disk.JoinedSeen.{joined_seen};
+ghost use Rattle.volume_files.specs.volume_disks.Singles.{single_seen};
 ghost use Rattle.vm_run.specs.Asked.{Given, Asked, WasAsked, given_of};
 ghost use Rattle.volume_files.specs.Attached.{AreAttached, ArePlaced, HasRooms, attached_seen, bare_disks, numbered_seen};
 ghost use Rattle.vm_run.specs.Course.{HasCase, IsReady, IsReadPlan, AreReadBytes, Traces, opening_stop};
@@ -20,8 +21,8 @@ use command_line::Options;
 use std::alloc::Global;
 use vm_core::KernelHistory;
 use volume_files::{
-    Attached, Disk, JoinedDisk, OpenFault, Placed, Plan, Rack, ShowStop, Sink, Source, Unopened,
-    attach, into_disks, into_swap, place, setup_law, trace_opening,
+    Attached, Disk, JoinedDisk, OpenFault, Placed, Plan, Rack, ShowStop, Single, Sink, Source,
+    Unopened, attach, into_disks, into_swap, place, setup_law, trace_opening,
 };
 
 /// A run whose processes can run.
@@ -134,7 +135,7 @@ pub fn ready_plan<K: Sink, R: Rack>(
     mut plan: Plan,
     out: &mut K,
     rack: &mut R,
-) -> Result<Ready<JoinedDisk<R::D>>, Stop<JoinedDisk<R::D>>>
+) -> Result<Ready<JoinedDisk<Single<R::D>>>, Stop<JoinedDisk<Single<R::D>>>>
     requires read { IsReadPlan plan }
     // Whatever words it came of, and whatever was read.
     ensures ready { IfOk result (λ r. (options ≡ r.options)
@@ -143,7 +144,7 @@ pub fn ready_plan<K: Sink, R: Rack>(
         → WasAsked g (Ok (record { options = options; plan = plan }))
         → IsReady g (K.seen out.old) (K.seen out.new)
         (record { options = options; plan = plan }) files bytes
-        (attached_seen (joined_seen R.D.seen) r.placed.attached) r.placed.files r.plan)) }
+        (attached_seen (joined_seen (single_seen R.D.seen)) r.placed.attached) r.placed.files r.plan)) }
     ensures numbered { IfOk result (λ r. (files : List OpenedFile)
         × (r.plan ≡ numbered_plan files plan)) }
     ensures rooms { IfOk result (λ r. HasRooms r.placed.attached) }
@@ -152,21 +153,21 @@ pub fn ready_plan<K: Sink, R: Rack>(
         → WasAsked g (Ok (record { options = options; plan = plan }))
         → o.rack_old ≡ (R.seen rack.old).faults → o.rack_new ≡ (R.seen rack.new).faults
         → o.sink_old ≡ K.seen out.old → o.sink_new ≡ K.seen out.new
-        → HasCase g o (joined_seen R.D.seen) s) }
+        → HasCase g o (joined_seen (single_seen R.D.seen)) s) }
     // Each disk that the rack attached is there, or is handed back.
     ensures kept { IfOk result (λ r. (R.seen rack.new).attached ≡ (R.seen rack.old).attached
-        + member_count (bare_disks (attached_seen (joined_seen R.D.seen) r.placed.attached).disks)
-        (attached_seen (joined_seen R.D.seen) r.placed.attached).swap) }
+        + member_count (bare_disks (attached_seen (joined_seen (single_seen R.D.seen)) r.placed.attached).disks)
+        (attached_seen (joined_seen (single_seen R.D.seen)) r.placed.attached).swap) }
     ensures back { IfErr result (λ s. (R.seen rack.new).attached ≡ (R.seen rack.old).attached
-        + member_count (map (joined_seen R.D.seen) s.disks.items)
-        (option_map (joined_seen R.D.seen) s.swap)) }
+        + member_count (map (joined_seen (single_seen R.D.seen)) s.disks.items)
+        (option_map (joined_seen (single_seen R.D.seen)) s.swap)) }
     // Where it is ready, or memory lacked, none counted a fault.
     ensures served { IfOk result (λ _.
         ((R.seen rack.new).faults ≡ (R.seen rack.old).faults)
         × ((K.seen out.new).faults ≡ (K.seen out.old).faults)) }
     ensures uncounted { IfOk result (λ r.
-        AreUncounted (bare_disks (attached_seen (joined_seen R.D.seen) r.placed.attached).disks)
-        (attached_seen (joined_seen R.D.seen) r.placed.attached).swap) }
+        AreUncounted (bare_disks (attached_seen (joined_seen (single_seen R.D.seen)) r.placed.attached).disks)
+        (attached_seen (joined_seen (single_seen R.D.seen)) r.placed.attached).swap) }
     ensures lacks { IfErr result (λ s. s.ending ≡ Memory
         → ((R.seen rack.new).faults ≡ (R.seen rack.old).faults)
         × ((K.seen out.new).faults ≡ (K.seen out.old).faults)) }

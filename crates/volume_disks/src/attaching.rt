@@ -1,12 +1,15 @@
 //! Volumes are attached.
 ghost use Rattle.std.specs.Prelude.{◌≡◌, ◌≢◌, ◌≤◌, ◌+◌, option_map, Some, None, IfOk, IfErr, OnOk};
 ghost use Rattle.std.specs.Option.{ForSome};
+ghost use Rattle.block_device.specs.Opening.{Opens};
 ghost use Rattle.block_device.specs.Pairs.{CanPair};
 ghost use Rattle.block_device.specs.RackSeen.{spec_number};
 ghost use Rattle.block_device.specs.declared.rack.Spec.{Spec};
+ghost use Rattle.volume_disks.specs.Singles.{single_seen};
 ghost use Rattle.volume_disks.specs.Volumes.{HasTwoNumbers, IsVolume, StopsVolume, attached_count, first_spec, second_spec, spec_count, stop_of};
 ghost use Rattle.volume_disks.specs.declared.stops.VolumeStop.TheVariants.{Memory};
 
+use crate::single::Single;
 use crate::sizes::size_fault;
 use crate::stops::{Unattached, VolumeStop};
 use crate::volume_spec::VolumeSpec;
@@ -47,14 +50,27 @@ fn paired<D: Disk, P: Pairing<D>>(
     }
 }
 
-// Attaches the disk of a spec, as a volume. It takes no memory of its own.
-fn attach_plain<R: Rack, P: Pairing<R::D>>(
+/// Attaches the disk of a spec, as one disk.
+pub fn attach_single<R: Rack>(
     rack: &mut R,
     spec: &Spec,
-) -> Result<Unopened<P>, Unattached<R::D>>
-    ensures ok { IfOk result (IsVolume R.D.seen P.pairs (R.seen rack.old).holds
+) -> Result<Unopened<Single<R::D>>, AttachFault>
+    ensures { Opens (R.seen rack.old) (R.seen rack.new) spec.now (single_seen R.D.seen) result }
+{
+    match Unopened::attach(rack, spec) {
+        Ok(disk) => Ok(disk.alone()),
+        Err(fault) => Err(fault),
+    }
+}
+
+// Attaches the disk of a spec, as a volume. It takes no memory of its own.
+fn attach_plain<R: Rack, P: Pairing<Single<R::D>>>(
+    rack: &mut R,
+    spec: &Spec,
+) -> Result<Unopened<P>, Unattached<Single<R::D>>>
+    ensures ok { IfOk result (IsVolume (single_seen R.D.seen) P.pairs (R.seen rack.old).holds
         (VolumeSpec.Plain spec.now)) }
-    ensures err { IfErr result (StopsVolume R.D.seen (R.seen rack.old) (R.seen rack.new)
+    ensures err { IfErr result (StopsVolume (single_seen R.D.seen) (R.seen rack.old) (R.seen rack.new)
         (VolumeSpec.Plain spec.now)) }
     // Each disk that the rack attached is there, or is handed back.
     ensures counted { OnOk result
@@ -67,7 +83,7 @@ fn attach_plain<R: Rack, P: Pairing<R::D>>(
     ensures later { (R.seen rack.old).faults ≤ (R.seen rack.new).faults }
     ensures steady { OnOk result ((R.seen rack.new).faults ≡ (R.seen rack.old).faults) }
 {
-    match Unopened::attach(rack, spec) {
+    match attach_single(rack, spec) {
         Ok(disk) => Ok(disk.alone()),
         Err(fault) => Err(Unattached {
             why: stop_of(fault),
@@ -78,17 +94,17 @@ fn attach_plain<R: Rack, P: Pairing<R::D>>(
 }
 
 // Attaches the disks of two specs, tests their sizes, and joins them.
-fn attach_joined<R: Rack, P: Pairing<R::D>>(
+fn attach_joined<R: Rack, P: Pairing<Single<R::D>>>(
     alloc: Global,
     rack: &mut R,
     first: &Spec,
     second: &Spec,
     mirror: bool,
-) -> Result<Unopened<P>, Unattached<R::D>>
+) -> Result<Unopened<P>, Unattached<Single<R::D>>>
     requires { spec_number second.now ≢ spec_number first.now }
-    ensures ok { IfOk result (IsVolume R.D.seen P.pairs (R.seen rack.old).holds
+    ensures ok { IfOk result (IsVolume (single_seen R.D.seen) P.pairs (R.seen rack.old).holds
         (VolumeSpec.Joined first.now second.now mirror)) }
-    ensures err { IfErr result (StopsVolume R.D.seen (R.seen rack.old) (R.seen rack.new)
+    ensures err { IfErr result (StopsVolume (single_seen R.D.seen) (R.seen rack.old) (R.seen rack.new)
         (VolumeSpec.Joined first.now second.now mirror)) }
     // Each disk that the rack attached is there, or is handed back.
     ensures counted { OnOk result
@@ -102,7 +118,7 @@ fn attach_joined<R: Rack, P: Pairing<R::D>>(
     ensures later { (R.seen rack.old).faults ≤ (R.seen rack.new).faults }
     ensures steady { OnOk result ((R.seen rack.new).faults ≡ (R.seen rack.old).faults) }
 {
-    let a = match Unopened::attach(rack, first) {
+    let a = match attach_single(rack, first) {
         Ok(disk) => disk,
         Err(fault) => {
             return Err(Unattached {
@@ -112,7 +128,7 @@ fn attach_joined<R: Rack, P: Pairing<R::D>>(
             });
         }
     };
-    let b = match Unopened::attach(rack, second) {
+    let b = match attach_single(rack, second) {
         Ok(disk) => disk,
         Err(fault) => {
             return Err(Unattached {
@@ -135,15 +151,15 @@ fn attach_joined<R: Rack, P: Pairing<R::D>>(
 /// Attaches the disk of a volume, or its two disks one right after the other. Then it tests the sizes of two, and joins them.
 ///
 /// An error is a fault of the rack, a size that doesn't serve, or want of memory; it has the disks that were attached.
-pub fn attach_volume<R: Rack, P: Pairing<R::D>>(
+pub fn attach_volume<R: Rack, P: Pairing<Single<R::D>>>(
     alloc: Global,
     rack: &mut R,
     volume: &VolumeSpec,
-) -> Result<Unopened<P>, Unattached<R::D>>
+) -> Result<Unopened<P>, Unattached<Single<R::D>>>
     requires { HasTwoNumbers volume.now }
-    ensures ok { IfOk result (IsVolume R.D.seen P.pairs (R.seen rack.old).holds volume.now) }
+    ensures ok { IfOk result (IsVolume (single_seen R.D.seen) P.pairs (R.seen rack.old).holds volume.now) }
     ensures err { IfErr result
-        (StopsVolume R.D.seen (R.seen rack.old) (R.seen rack.new) volume.now) }
+        (StopsVolume (single_seen R.D.seen) (R.seen rack.old) (R.seen rack.new) volume.now) }
     // Each disk that the rack attached is there, or is handed back.
     ensures counted { OnOk result
         ((R.seen rack.new).attached ≡ (R.seen rack.old).attached + spec_count volume.now) }

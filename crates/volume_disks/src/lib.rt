@@ -2,10 +2,12 @@
 #![tactic(auto)]
 
 mod attaching;
+mod single;
 mod sizes;
 mod stops;
 mod volume_spec;
 
-pub use attaching::attach_volume;
+pub use attaching::{attach_single, attach_volume};
+pub use single::Single;
 pub use stops::{Unattached, VolumeStop};
 pub use volume_spec::VolumeSpec;

@@ -4,8 +4,12 @@ use Rattle.std.proofs.Common.{ap, sym, ◌∙◌, refl, suc, arith}
 use Rattle.std.proofs.lemmas.List.Sums.{sum_by-cons}
 use Rattle.block_device.specs.DiskSeen.{DiskKind, DiskSeen}
 use Rattle.block_device.specs.declared.numbered.NumberedDisk.{NumberedDisk}
-use Rattle.volume_files.specs.Attached.{bare_disks, numbered_seen}
-use Rattle.volume_files.specs.Handed.{kinds_of, member_count, members_of, swap_members}
+use Rattle.block_device.specs.declared.rack.Spec.{Spec}
+use Rattle.volume_disks.specs.Volumes.{spec_count}
+use Rattle.volume_disks.specs.declared.volume_spec.VolumeSpec.{VolumeSpec}
+use Rattle.volume_format.specs.Table.{TableSeen}
+use Rattle.volume_files.specs.Attached.{AreMounted, bare_disks, numbered_seen}
+use Rattle.volume_files.specs.Handed.{disk_counts, kinds_of, member_count, members_of, swap_members}
 use Rattle.volume_files.specs.Placing.{RemainThere}
 use Rattle.volume_files.specs.Written.{AreOnlyRead, WriteTables}
 use Rattle.volume_files.proofs.HandLemmas.{SameDisks, same-disks}
@@ -51,9 +55,27 @@ kinds-written old new w = same-maps kind_of kind_of new old w.count (λ i e d no
 pub kinds-read : (old new : List (ℕ × DiskSeen)) → AreOnlyRead old new → kinds_of new ≡ kinds_of old
 kinds-read old new r = same-maps kind_of kind_of new old r.count (λ i e d now was. (r.each i d e was now).kind)
 
+-- how many disks each of them is, by their kinds
+counts-of : (ds : List (ℕ × DiskSeen)) → disk_counts (bare_disks ds) ≡ map (λ (k : DiskKind). k.members) (kinds_of ds)
+counts-of [] = refl
+counts-of (d ∷ ds) = ap (λ l. d.1.kind.members ∷ l) (counts-of ds)
+
+pub counts-kinds : (ds es : List (ℕ × DiskSeen)) → kinds_of ds ≡ kinds_of es → disk_counts (bare_disks ds) ≡ disk_counts (bare_disks es)
+counts-kinds ds es same = counts-of ds ∙ (ap (map (λ (k : DiskKind). k.members)) same ∙ sym (counts-of es))
+
+pub counts-mounted : (holds : Spec → Option (List (List ℕ))) (specs : List VolumeSpec) (ds : List (ℕ × DiskSeen)) (ts : List TableSeen) → AreMounted holds specs ds ts
+    → disk_counts (bare_disks ds) ≡ map spec_count specs
+counts-mounted holds [] [] [] m = refl
+counts-mounted holds [] [] (t ∷ ts) m = absurd m
+counts-mounted holds [] (d ∷ ds) ts m = absurd m
+counts-mounted holds (s ∷ specs) [] ts m = absurd m
+counts-mounted holds (s ∷ specs) (d ∷ ds) [] m = absurd m
+counts-mounted holds (s ∷ specs) (d ∷ ds) (t ∷ ts) m =
+    ap (λ (n : ℕ). n ∷ disk_counts (bare_disks ds)) m.0.attached.1 ∙ ap (λ l. spec_count s ∷ l) (counts-mounted holds specs ds ts m.1)
+
 -- disks on which files were written
 module _ {D : Type 0} (seen : D → DiskSeen) where
-  kinds-same : (ds es : List (NumberedDisk D)) → SameDisks seen ds es → kinds_of (map (numbered_seen seen) es) ≡ kinds_of (map (numbered_seen seen) ds)
+  pub kinds-same : (ds es : List (NumberedDisk D)) → SameDisks seen ds es → kinds_of (map (numbered_seen seen) es) ≡ kinds_of (map (numbered_seen seen) ds)
   kinds-same [] [] r = refl
   kinds-same [] (e ∷ es) r = absurd r
   kinds-same (d ∷ ds) [] r = absurd r

@@ -38,7 +38,7 @@ use Rattle.volume_files.proofs.FaultCauses.{if-counted}
 use Rattle.volume_files.proofs.MountDisks.{Told, given_length, given_of_mounted}
 
 -- what was handed back of all disks is a front of them
-pub front_swap : (slots : ℕ) (swap : Option DiskSeen) → IsSwapFor slots swap → IfSome swap (λ d. (0 < slots) × (d.size ≡ slots))
+pub front_swap : (slots : ℕ) (swap : Option DiskSeen) → IsSwapFor slots swap → IfSome swap (λ d. (0 < slots) × (d.size ≡ slots) × (d.kind.members ≡ 1))
 front_swap slots None serves = tt
 front_swap slots (Some d) serves = serves
 

@@ -20,7 +20,7 @@ use Rattle.volume_files.specs.declared.stops.Refusal.TheVariants as refusal
 use Rattle.volume_disks.specs.declared.volume_spec.VolumeSpec.{VolumeSpec}
 use Rattle.volume_disks.specs.declared.volume_spec.VolumeSpec.TheVariants.{Plain, Joined}
 use Rattle.volume_files.specs.Opened.{ComesTo, IsVolumeAttached, OpenedFile, joined_size, mounted_files, volume_number, volume_specs, opened_files, table_of_read, size_refusal}
-use Rattle.volume_disks.specs.Volumes.{second_spec, size_fault}
+use Rattle.volume_disks.specs.Volumes.{second_spec, size_fault, spec_count}
 
 -- Each disk that came back tells its blocks.
 pub record HaveTold (disks : List DiskSeen) (swap : Option DiskSeen) : Type 0 where
@@ -63,6 +63,10 @@ handed_specs plan whole apart = take whole (volume_specs plan) ++ take apart (di
 abbrev pub kinds_of : List (ℕ × DiskSeen) → List DiskKind
 kinds_of disks = map (λ (d : ℕ × DiskSeen). d.1.kind) disks
 
+-- How many disks each of these is.
+abbrev pub disk_counts : List DiskSeen → List ℕ
+disk_counts disks = map (λ (d : DiskSeen). d.kind.members) disks
+
 -- How many disks these are: of a disk that stands for several, each counts.
 abbrev pub members_of : List DiskSeen → ℕ
 members_of disks = sum_by (λ (d : DiskSeen). d.kind.members) disks
@@ -74,9 +78,9 @@ swap_members swap = option_map_or (λ (d : DiskSeen). d.kind.members) swap 0
 abbrev pub member_count : List DiskSeen → Option DiskSeen → ℕ
 member_count disks swap = members_of disks + swap_members swap
 
--- There is a swap disk exactly where there are slots, with one block for each.
+-- There is a swap disk exactly where there are slots: one disk, with one block for each.
 abbrev pub IsSwapFor : ℕ → Option DiskSeen → Type 0
-IsSwapFor slots swap = MatchOption swap (slots ≡ 0) (λ d. (0 < slots) × (d.size ≡ slots))
+IsSwapFor slots swap = MatchOption swap (slots ≡ 0) (λ d. (0 < slots) × (d.size ≡ slots) × (d.kind.members ≡ 1))
 
 -- Each of these disks is as the rack gave it, and so is the swap disk: nothing was written. A blank disk has its blocks, zeros where it tells, and one by
 -- path has what the rack holds for it.
@@ -98,12 +102,13 @@ pub record HandsFront (plan : PlanSeen) (holds : Spec → Option (List (List ℕ
   pub whole : ℕ
   pub apart : ℕ
   pub same : AreUntouched plan holds whole apart disks swap
-  pub first : IfSome swap (λ d. (0 < (amounts_of plan.setup).slots) × (d.size ≡ (amounts_of plan.setup).slots))
+  pub first : IfSome swap (λ d. (0 < (amounts_of plan.setup).slots) × (d.size ≡ (amounts_of plan.setup).slots) × (d.kind.members ≡ 1))
   pub before : 0 < length disks → IsSwapFor (amounts_of plan.setup).slots swap
 
--- All of the plan's volumes are handed back, in rising number, and the swap disk where there are slots.
+-- All of the plan's volumes are handed back, in rising number, each as many disks as its spec says, and the swap disk where there are slots.
 pub record HandsAll (plan : PlanSeen) (disks : List DiskSeen) (swap : Option DiskSeen) : Type 0 where
   pub each : HaveSpecSizes (volume_specs plan) disks
+  pub counts : disk_counts disks ≡ map spec_count (volume_specs plan)
   pub first : IsSwapFor (amounts_of plan.setup).slots swap
 
 -- The swap disk where there are slots, the volumes whose numbers pass a test, which are a front of the plan's, and so many disks of the next one; and nothing

@@ -1,6 +1,7 @@
 //! The disks are attached, and their tables read.
 ghost use Rattle.std.specs.Prelude.{◌≡◌, ◌≤◌, ◌<◌, ◌+◌, [], map, option_map, length, false, None, IfOk, IfErr, IfSome, OnErr, vec_capacity};
 ghost use Rattle.vm_report.specs.vm_script.Rules.{amounts_of, broken_join, broken_rule, has_wrong_disk};
+ghost use Rattle.volume_disks.specs.Singles.{single_seen};
 ghost use Rattle.volume_files.specs.Attached.{AreAttached, HasRooms, StopsEarly, attached_seen, bare_disks};
 ghost use Rattle.volume_files.specs.Handed.{AreUncounted, IsSwapAsGiven, IsSwapFor, member_count, swap_members};
 ghost use Rattle.joined_disk.specs.JoinedSeen.{joined_seen};
@@ -13,6 +14,7 @@ use block_device::{AttachFault, Disk, Rack, Spec, Unopened};
 use joined_disk::JoinedDisk;
 use std::alloc::{AllocError, Global};
 use vm_report::{Plan, amounts_of};
+use volume_disks::{Single, attach_single};
 use volume_format::Table;
 
 /// The disks of a run before its processes run, with the tables of their files.
@@ -51,24 +53,24 @@ fn take_rooms<D: Disk>(alloc: Global) -> Result<Attached<D>, AllocError>
 fn attach_swap<R: Rack>(
     slots: u32,
     rack: &mut R,
-) -> Result<Option<Unopened<JoinedDisk<R::D>>>, OpenStop>
+) -> Result<Option<Unopened<JoinedDisk<Single<R::D>>>>, OpenStop>
     ensures ok { IfOk result (λ swap.
-        IsSwapFor slots (option_map (λ d. joined_seen R.D.seen d.disk) swap)) }
+        IsSwapFor slots (option_map (λ d. joined_seen (single_seen R.D.seen) d.disk) swap)) }
     ensures blank { IfOk result (λ swap.
-        IsSwapAsGiven slots (option_map (λ d. joined_seen R.D.seen d.disk) swap)) }
+        IsSwapAsGiven slots (option_map (λ d. joined_seen (single_seen R.D.seen) d.disk) swap)) }
     ensures err { IfErr result (UngivenCause 8 (R.seen rack.old).faults (R.seen rack.new).faults) }
     ensures slots { IfErr result (λ _. 0 < slots) }
     // The rack counts the disk.
     ensures counted { IfOk result (λ swap. (R.seen rack.new).attached
         ≡ (R.seen rack.old).attached
-        + swap_members (option_map (λ d. joined_seen R.D.seen d.disk) swap)) }
+        + swap_members (option_map (λ d. joined_seen (single_seen R.D.seen) d.disk) swap)) }
     ensures uncounted { OnErr result ((R.seen rack.new).attached ≡ (R.seen rack.old).attached) }
     ensures same { HoldSame (R.seen rack.new).holds (R.seen rack.old).holds }
     ensures later { (R.seen rack.old).faults ≤ (R.seen rack.new).faults }
     ensures steady { UnlessFailed result
         ((R.seen rack.new).faults ≡ (R.seen rack.old).faults) }
     ensures unfailed { IfOk result (λ swap.
-        IfSome (option_map (λ d. joined_seen R.D.seen d.disk) swap) (λ d. d.faults ≡ 0)) }
+        IfSome (option_map (λ d. joined_seen (single_seen R.D.seen) d.disk) swap) (λ d. d.faults ≡ 0)) }
 {
     if slots == 0 {
         return Ok(None);
@@ -77,7 +79,7 @@ fn attach_swap<R: Rack>(
         number: 8,
         blocks: slots,
     };
-    match Unopened::attach(rack, &spec) {
+    match attach_single(rack, &spec) {
         Ok(disk) => Ok(Some(disk.alone())),
         Err(AttachFault::Failed(fault)) => Err(OpenStop::Failed(fault)),
         Err(AttachFault::Memory) => Err(OpenStop::Memory),
@@ -131,8 +133,8 @@ fn attach_within<R: Rack>(
     alloc: Global,
     plan: &Plan,
     rack: &mut R,
-    rooms: Attached<JoinedDisk<R::D>>,
-) -> Result<Attached<JoinedDisk<R::D>>, HandedBack<JoinedDisk<R::D>>>
+    rooms: Attached<JoinedDisk<Single<R::D>>>,
+) -> Result<Attached<JoinedDisk<Single<R::D>>>, HandedBack<JoinedDisk<Single<R::D>>>>
     requires right { has_wrong_disk plan.now.setup ≡ false }
     requires joins { broken_join plan.now.setup ≡ None }
     requires disks { (rooms.disks.items ≡ []) × (9 ≤ vec_capacity rooms.disks) }
@@ -142,28 +144,28 @@ fn attach_within<R: Rack>(
     requires back { (rooms.back.items ≡ []) × (9 ≤ vec_capacity rooms.back) }
     // As `attach`.
     ensures ok { IfOk result (λ a. AreAttached plan.now (R.seen rack.old).holds
-        (attached_seen (joined_seen R.D.seen) a)) }
+        (attached_seen (joined_seen (single_seen R.D.seen)) a)) }
     ensures rooms { IfOk result HasRooms }
     ensures err { IfErr result (StopsEarly plan.now (R.seen rack.old).holds
-        (R.seen rack.old).faults (R.seen rack.new).faults (joined_seen R.D.seen)) }
+        (R.seen rack.old).faults (R.seen rack.new).faults (joined_seen (single_seen R.D.seen))) }
     // Each disk that the rack attached is there, or is handed back.
     ensures kept { IfOk result (λ a. (R.seen rack.new).attached ≡ (R.seen rack.old).attached
-        + member_count (bare_disks (attached_seen (joined_seen R.D.seen) a).disks)
-        (attached_seen (joined_seen R.D.seen) a).swap) }
+        + member_count (bare_disks (attached_seen (joined_seen (single_seen R.D.seen)) a).disks)
+        (attached_seen (joined_seen (single_seen R.D.seen)) a).swap) }
     ensures back { IfErr result (λ s. (R.seen rack.new).attached ≡ (R.seen rack.old).attached
-        + member_count (map (joined_seen R.D.seen) s.disks.items)
-        (option_map (joined_seen R.D.seen) s.swap)) }
+        + member_count (map (joined_seen (single_seen R.D.seen)) s.disks.items)
+        (option_map (joined_seen (single_seen R.D.seen)) s.swap)) }
     ensures later { (R.seen rack.old).faults ≤ (R.seen rack.new).faults }
     // Unless the rack or a disk failed, none counted a fault.
     ensures steady { IfOk result (λ _. (R.seen rack.new).faults ≡ (R.seen rack.old).faults) }
     ensures uncounted { IfOk result (λ a.
-        AreUncounted (bare_disks (attached_seen (joined_seen R.D.seen) a).disks)
-        (attached_seen (joined_seen R.D.seen) a).swap) }
+        AreUncounted (bare_disks (attached_seen (joined_seen (single_seen R.D.seen)) a).disks)
+        (attached_seen (joined_seen (single_seen R.D.seen)) a).swap) }
     ensures lacks { IfErr result (λ s. s.why ≡ OpenStop.Memory
         → (R.seen rack.new).faults ≡ (R.seen rack.old).faults) }
     ensures lacked { IfErr result (λ s. s.why ≡ OpenStop.Memory
-        → AreUncounted (map (joined_seen R.D.seen) s.disks.items)
-        (option_map (joined_seen R.D.seen) s.swap)) }
+        → AreUncounted (map (joined_seen (single_seen R.D.seen)) s.disks.items)
+        (option_map (joined_seen (single_seen R.D.seen)) s.swap)) }
 {
     let mut attached = rooms;
     let swap = match attach_swap(amounts_of(plan.setup()).slots, rack) {
@@ -191,31 +193,31 @@ pub fn attach<R: Rack>(
     alloc: Global,
     plan: &Plan,
     rack: &mut R,
-) -> Result<Attached<JoinedDisk<R::D>>, HandedBack<JoinedDisk<R::D>>>
+) -> Result<Attached<JoinedDisk<Single<R::D>>>, HandedBack<JoinedDisk<Single<R::D>>>>
     requires { broken_rule plan.now ≡ None }
     ensures ok { IfOk result (λ a. AreAttached plan.now (R.seen rack.old).holds
-        (attached_seen (joined_seen R.D.seen) a)) }
+        (attached_seen (joined_seen (single_seen R.D.seen)) a)) }
     ensures rooms { IfOk result HasRooms }
     ensures err { IfErr result (StopsEarly plan.now (R.seen rack.old).holds
-        (R.seen rack.old).faults (R.seen rack.new).faults (joined_seen R.D.seen)) }
+        (R.seen rack.old).faults (R.seen rack.new).faults (joined_seen (single_seen R.D.seen))) }
     // Each disk that the rack attached is there, or is handed back.
     ensures kept { IfOk result (λ a. (R.seen rack.new).attached ≡ (R.seen rack.old).attached
-        + member_count (bare_disks (attached_seen (joined_seen R.D.seen) a).disks)
-        (attached_seen (joined_seen R.D.seen) a).swap) }
+        + member_count (bare_disks (attached_seen (joined_seen (single_seen R.D.seen)) a).disks)
+        (attached_seen (joined_seen (single_seen R.D.seen)) a).swap) }
     ensures back { IfErr result (λ s. (R.seen rack.new).attached ≡ (R.seen rack.old).attached
-        + member_count (map (joined_seen R.D.seen) s.disks.items)
-        (option_map (joined_seen R.D.seen) s.swap)) }
+        + member_count (map (joined_seen (single_seen R.D.seen)) s.disks.items)
+        (option_map (joined_seen (single_seen R.D.seen)) s.swap)) }
     ensures later { (R.seen rack.old).faults ≤ (R.seen rack.new).faults }
     // Unless the rack or a disk failed, none counted a fault.
     ensures steady { IfOk result (λ _. (R.seen rack.new).faults ≡ (R.seen rack.old).faults) }
     ensures uncounted { IfOk result (λ a.
-        AreUncounted (bare_disks (attached_seen (joined_seen R.D.seen) a).disks)
-        (attached_seen (joined_seen R.D.seen) a).swap) }
+        AreUncounted (bare_disks (attached_seen (joined_seen (single_seen R.D.seen)) a).disks)
+        (attached_seen (joined_seen (single_seen R.D.seen)) a).swap) }
     ensures lacks { IfErr result (λ s. s.why ≡ OpenStop.Memory
         → (R.seen rack.new).faults ≡ (R.seen rack.old).faults) }
     ensures lacked { IfErr result (λ s. s.why ≡ OpenStop.Memory
-        → AreUncounted (map (joined_seen R.D.seen) s.disks.items)
-        (option_map (joined_seen R.D.seen) s.swap)) }
+        → AreUncounted (map (joined_seen (single_seen R.D.seen)) s.disks.items)
+        (option_map (joined_seen (single_seen R.D.seen)) s.swap)) }
 {
     match take_rooms(alloc) {
         Ok(rooms) => attach_within(alloc, plan, rack, rooms),

@@ -34,4 +34,5 @@ pub use vm_report::{
     read_fault, script_fault, setup_fault, setup_law, sound_law, summary, trace_entries, usage,
     volume_fault,
 };
+pub use volume_disks::Single;
 pub use volume_format::Files;

@@ -9,6 +9,7 @@ ghost use Rattle.volume_disks.specs.Volumes.{HasTwoNumbers, first_spec, second_s
 ghost use Rattle.volume_format.specs.Rules.{reading};
 ghost use Rattle.volume_format.specs.Volume.{IsVolumeTable};
 ghost use Rattle.vm_report.specs.vm_script.Rules.{broken_join, gives_disk, has_wrong_disk};
+ghost use Rattle.volume_disks.specs.Singles.{single_seen};
 ghost use Rattle.volume_files.specs.Attached.{AreMounted, bare_disks, numbered_seen};
 ghost use Rattle.volume_files.specs.Handed.{members_of};
 ghost use Rattle.volume_files.specs.Mounting.{Holds, HoldSame, SaysTableRead, BadTableCause, UnreadCause, MountsOne, MountsNumber, HaltsNumber, HaltsSpec, Halts, IsOtherDisk, unmounted_as, volumes_seen};
@@ -21,7 +22,7 @@ use block_device::{Disk, PathText, Rack, Spec, Unopened};
 use joined_disk::JoinedDisk;
 use std::alloc::{AllocError, Global};
 use vm_report::{SetupAct, SetupLine};
-use volume_disks::{VolumeSpec, VolumeStop, attach_volume};
+use volume_disks::{Single, VolumeSpec, VolumeStop, attach_volume};
 use volume_format::{Table, decode};
 
 // The disk of a number that a set-up line gives, if it gives that.
@@ -118,8 +119,8 @@ fn second_numbered(
     }
 }
 
-// The volume of a number that set-up lines give, if they give one.
-fn volume_numbered(
+/// The volume of a number that set-up lines give, if they give one.
+pub(crate) fn volume_numbered(
     alloc: Global,
     setup: &[SetupLine],
     number: u32,
@@ -221,7 +222,7 @@ fn mount<R: Rack>(
     alloc: Global,
     volume: &VolumeSpec,
     rack: &mut R,
-    disks: &mut Vec<Unopened<JoinedDisk<R::D>>>,
+    disks: &mut Vec<Unopened<JoinedDisk<Single<R::D>>>>,
     tables: &mut Vec<Table>,
 ) -> Result<(), OpenStop>
     requires numbers { HasTwoNumbers volume.now }
@@ -229,12 +230,12 @@ fn mount<R: Rack>(
     requires tables { vec_len tables.old < vec_capacity tables.old }
     // The volume is there with its table, or why not.
     ensures ok { OnOk result (MountsOne (R.seen rack.old).holds volume.now
-        (volumes_seen R.D.seen disks.old.items) (volumes_seen R.D.seen disks.new.items)
+        (volumes_seen (single_seen R.D.seen) disks.old.items) (volumes_seen (single_seen R.D.seen) disks.new.items)
         tables.old.items tables.new.items) }
     ensures err { IfErr result (HaltsSpec (R.seen rack.old).holds volume.now
         (R.seen rack.old).faults (R.seen rack.new).faults
-        (volumes_seen R.D.seen disks.old.items)
-        (volumes_seen R.D.seen disks.new.items)) }
+        (volumes_seen (single_seen R.D.seen) disks.old.items)
+        (volumes_seen (single_seen R.D.seen) disks.new.items)) }
     // What stays.
     ensures others { (s : Spec) → spec_number s ≢ spec_number (first_spec volume.now)
         → ForSome (second_spec volume.now) (λ t. spec_number s ≢ spec_number t)
@@ -244,13 +245,13 @@ fn mount<R: Rack>(
     ensures steady { UnlessFailed result
         ((R.seen rack.new).faults ≡ (R.seen rack.old).faults) }
     ensures uncounted { UnlessFailed result
-        (NoneCounted (volumes_seen R.D.seen disks.old.items)
-        → NoneCounted (volumes_seen R.D.seen disks.new.items)) }
+        (NoneCounted (volumes_seen (single_seen R.D.seen) disks.old.items)
+        → NoneCounted (volumes_seen (single_seen R.D.seen) disks.new.items)) }
     // Each disk that the rack attached is in a list.
     ensures count { (R.seen rack.new).attached
-        + members_of (bare_disks (volumes_seen R.D.seen disks.old.items))
+        + members_of (bare_disks (volumes_seen (single_seen R.D.seen) disks.old.items))
         ≡ (R.seen rack.old).attached
-        + members_of (bare_disks (volumes_seen R.D.seen disks.new.items)) }
+        + members_of (bare_disks (volumes_seen (single_seen R.D.seen) disks.new.items)) }
     // Room for one volume is taken, or for its two disks.
     ensures disks { OnOk result (vec_len disks.new ≤ vec_len disks.old + 1) }
     ensures most { vec_len disks.new ≤ vec_len disks.old + 2 }
@@ -258,7 +259,7 @@ fn mount<R: Rack>(
     ensures room { vec_capacity disks.new ≡ vec_capacity disks.old }
     ensures tables_room { vec_capacity tables.new ≡ vec_capacity tables.old }
 {
-    whole_law::<R::D>();
+    whole_law::<Single<R::D>>();
     let mut disk = match attach_volume(alloc, rack, volume) {
         Ok(disk) => disk,
         Err(back) => {
@@ -283,18 +284,18 @@ fn mount_numbered<R: Rack>(
     setup: &[SetupLine],
     number: u32,
     rack: &mut R,
-    disks: &mut Vec<Unopened<JoinedDisk<R::D>>>,
+    disks: &mut Vec<Unopened<JoinedDisk<Single<R::D>>>>,
     tables: &mut Vec<Table>,
 ) -> Result<(), OpenStop>
     requires disks { vec_len disks.old + 1 < vec_capacity disks.old }
     requires tables { vec_len tables.old < vec_capacity tables.old }
     ensures ok { OnOk result (MountsNumber setup.now number (R.seen rack.old).holds
-        (volumes_seen R.D.seen disks.old.items) (volumes_seen R.D.seen disks.new.items)
+        (volumes_seen (single_seen R.D.seen) disks.old.items) (volumes_seen (single_seen R.D.seen) disks.new.items)
         tables.old.items tables.new.items) }
     ensures err { IfErr result (HaltsNumber setup.now number (R.seen rack.old).holds
         (R.seen rack.old).faults (R.seen rack.new).faults
-        (volumes_seen R.D.seen disks.old.items)
-        (volumes_seen R.D.seen disks.new.items)) }
+        (volumes_seen (single_seen R.D.seen) disks.old.items)
+        (volumes_seen (single_seen R.D.seen) disks.new.items)) }
     // What stays.
     ensures others { (s : Spec) → IsOtherDisk setup.now number s
         → (R.seen rack.new).holds s ≡ (R.seen rack.old).holds s }
@@ -303,13 +304,13 @@ fn mount_numbered<R: Rack>(
     ensures steady { UnlessFailed result
         ((R.seen rack.new).faults ≡ (R.seen rack.old).faults) }
     ensures uncounted { UnlessFailed result
-        (NoneCounted (volumes_seen R.D.seen disks.old.items)
-        → NoneCounted (volumes_seen R.D.seen disks.new.items)) }
+        (NoneCounted (volumes_seen (single_seen R.D.seen) disks.old.items)
+        → NoneCounted (volumes_seen (single_seen R.D.seen) disks.new.items)) }
     // Each disk that the rack attached is in a list.
     ensures count { (R.seen rack.new).attached
-        + members_of (bare_disks (volumes_seen R.D.seen disks.old.items))
+        + members_of (bare_disks (volumes_seen (single_seen R.D.seen) disks.old.items))
         ≡ (R.seen rack.old).attached
-        + members_of (bare_disks (volumes_seen R.D.seen disks.new.items)) }
+        + members_of (bare_disks (volumes_seen (single_seen R.D.seen) disks.new.items)) }
     // Room for one volume is taken, or for its two disks.
     ensures disks { OnOk result (vec_len disks.new ≤ vec_len disks.old + 1) }
     ensures most { vec_len disks.new ≤ vec_len disks.old + 2 }
@@ -330,7 +331,7 @@ pub fn mount_all<R: Rack>(
     alloc: Global,
     setup: &[SetupLine],
     rack: &mut R,
-    disks: &mut Vec<Unopened<JoinedDisk<R::D>>>,
+    disks: &mut Vec<Unopened<JoinedDisk<Single<R::D>>>>,
     tables: &mut Vec<Table>,
 ) -> Result<(), OpenStop>
     requires right { has_wrong_disk setup.now ≡ false }
@@ -342,20 +343,20 @@ pub fn mount_all<R: Rack>(
     // The volume of each number is attached and read, or it stops at the first that isn't.
     ensures ok { (holds : Holds) → HoldSame (R.seen rack.old).holds holds
         → OnOk result (AreMounted holds (setup_volumes setup.now)
-        (volumes_seen R.D.seen disks.new.items) tables.new.items) }
+        (volumes_seen (single_seen R.D.seen) disks.new.items) tables.new.items) }
     ensures err { (holds : Holds) → HoldSame (R.seen rack.old).holds holds
         → IfErr result (Halts setup.now holds
         (R.seen rack.old).faults (R.seen rack.new).faults
-        (volumes_seen R.D.seen disks.new.items)) }
+        (volumes_seen (single_seen R.D.seen) disks.new.items)) }
     // What else holds.
     ensures later { (R.seen rack.old).faults ≤ (R.seen rack.new).faults }
     // Unless the rack or a disk failed, none counted a fault.
     ensures steady { UnlessFailed result
         ((R.seen rack.new).faults ≡ (R.seen rack.old).faults) }
     ensures uncounted { UnlessFailed result
-        (NoneCounted (volumes_seen R.D.seen disks.new.items)) }
+        (NoneCounted (volumes_seen (single_seen R.D.seen) disks.new.items)) }
     ensures count { (R.seen rack.new).attached ≡ (R.seen rack.old).attached
-        + members_of (bare_disks (volumes_seen R.D.seen disks.new.items)) }
+        + members_of (bare_disks (volumes_seen (single_seen R.D.seen) disks.new.items)) }
     ensures few { vec_len disks.new ≤ 9 }
     ensures eight { OnOk result (vec_len disks.new ≤ 8) }
 {

@@ -5,6 +5,7 @@ use Rattle.volume_files.specs.joined_disk.JoinedSeen.{joined_seen}
 use Rattle.volume_files.specs.Attached.{ArePlaced, attached_seen}
 use Rattle.volume_files.specs.Handed.{members_of, swap_members}
 use Rattle.vm_run.specs.Course.{IsReady}
+use Rattle.volume_files.specs.volume_disks.Singles.{single_seen}
 use Rattle.vm_run.proofs.RunReady.{placed-as, start-lacks}
 use Rattle.vm_run.proofs.beginning.begin_plan.Given.{Over}
 use Rattle.vm_run.proofs.beginning.begin_plan.Goals as goal
@@ -12,14 +13,14 @@ use Rattle.vm_run.proofs.beginning.begin_plan.Goals.{In-Ok}
 
 -- it is ready, of some words and source
 ready : (g : Over) (c : In-Ok g) → IsReady (record c.requires.may.asked.0 { holds = (g.R.Rack.seen c.args.rack.now).holds }) (g.K.Sink.seen c.args.out.now) (g.K.Sink.seen c.ready_plan.new.out)
-    (record { options = c.args.options; plan = c.args.plan }) c.in-Ok.ensures.ready.1 c.in-Ok.ensures.ready.2 (attached_seen (joined_seen g.R.D.Disk.seen) c.in-Ok.ready.placed.attached) c.in-Ok.ready.placed.files
+    (record { options = c.args.options; plan = c.args.plan }) c.in-Ok.ensures.ready.1 c.in-Ok.ensures.ready.2 (attached_seen (joined_seen (single_seen g.R.D.Disk.seen)) c.in-Ok.ready.placed.attached) c.in-Ok.ready.placed.files
     c.in-Ok.ready.plan
 ready g c = c.in-Ok.ensures.ready.3 (record c.requires.may.asked.0 { holds = (g.R.Rack.seen c.args.rack.now).holds }) refl c.requires.may.asked.1
 
-placed : (g : Over) (c : In-Ok g) → ArePlaced c.in-Ok.ready.plan (g.R.Rack.seen c.args.rack.now).holds c.in-Ok.ensures.ready.1 (attached_seen (joined_seen g.R.D.Disk.seen) c.in-Ok.ready.placed.attached) c.in-Ok.ready.placed.files
+placed : (g : Over) (c : In-Ok g) → ArePlaced c.in-Ok.ready.plan (g.R.Rack.seen c.args.rack.now).holds c.in-Ok.ensures.ready.1 (attached_seen (joined_seen (single_seen g.R.D.Disk.seen)) c.in-Ok.ready.placed.attached) c.in-Ok.ready.placed.files
 placed g c =
     let rd = ready g c in
-    placed-as c.in-Ok.ready.plan c.args.plan (g.R.Rack.seen c.args.rack.now).holds c.in-Ok.ensures.ready.1 (attached_seen (joined_seen g.R.D.Disk.seen) c.in-Ok.ready.placed.attached) c.in-Ok.ready.placed.files rd.numbered rd.placed
+    placed-as c.in-Ok.ready.plan c.args.plan (g.R.Rack.seen c.args.rack.now).holds c.in-Ok.ensures.ready.1 (attached_seen (joined_seen (single_seen g.R.D.Disk.seen)) c.in-Ok.ready.placed.attached) c.in-Ok.ready.placed.files rd.numbered rd.placed
 
 pub start-requires-clause-placed : goal.start-requires-clause-placed
 start-requires-clause-placed g c = ((g.R.Rack.seen c.args.rack.now).holds, c.in-Ok.ensures.ready.1, placed g (goal.at.start-requires-clause-placed g c).In-Ok)
@@ -36,7 +37,7 @@ returns-in-Ok-start-clause-begun g c =
     let rd = ready g at in
     let r = c.in-Ok.ensures.ready in
     let s = c.in-Ok.ensures.served in
-    let a = attached_seen (joined_seen g.R.D.Disk.seen) c.in-Ok.ready.placed.attached in
+    let a = attached_seen (joined_seen (single_seen g.R.D.Disk.seen)) c.in-Ok.ready.placed.attached in
     let long : length a.disks ≡ length c.in-Ok.ready.placed.attached.disks.items = length-map c.in-Ok.ready.placed.attached.disks.items _ in
     let room = c.in-Ok-start.ensures.room in (
       sym r.0,
@@ -68,7 +69,7 @@ returns-in-Err-clause-stopped g c = λ given before after is asked steady.
 
 pub returns-in-Err-start-clause-stopped : goal.returns-in-Err-start-clause-stopped
 returns-in-Err-start-clause-stopped g c = λ given before after is asked steady.
-    let seen = joined_seen g.R.D.Disk.seen in
+    let seen = joined_seen (single_seen g.R.D.Disk.seen) in
     let r = c.in-Ok.ensures.ready in
     let served = c.in-Ok.ensures.served in
     let stop = c.in-Err-start.stop in

@@ -3,6 +3,7 @@ use Rattle.std.specs.Prelude.{map, option_map}
 use Rattle.volume_files.proofs.DiskCounts.{count-as, count-read}
 use Rattle.volume_files.specs.Attached.{ArePlaced, StopsEarly, attached_seen}
 use Rattle.volume_files.specs.joined_disk.JoinedSeen.{joined_seen}
+use Rattle.volume_files.specs.volume_disks.Singles.{single_seen}
 use Rattle.vm_run.proofs.EarlyEnds.{never-risen, risen-outside, stopped-early}
 use Rattle.vm_run.proofs.RunReady.{is-ready, numbered-playable, placed-as}
 use Rattle.vm_run.proofs.StartRules.{right-amounts}
@@ -16,9 +17,9 @@ returns-in-Err-clause-err g c = λ given o is asked before after sink0 sink1 st 
     let new = (g.R.Rack.seen c.attach.new.rack).faults in
     let u = c.stop_unopened.ensures in
     stopped-early st ft given o (record { options = c.args.options; plan = c.args.plan }) asked old new (risen-outside old new o before after)
-    (g.K.Sink.seen c.args.out.now) sink0 sink1 (joined_seen g.R.D.Disk.seen)
+    (g.K.Sink.seen c.args.out.now) sink0 sink1 (joined_seen (single_seen g.R.D.Disk.seen))
     c.in-Err.back c.stop_unopened.result (record { ending = u.ending; entries = u.entries; counts = u.counts; disks = u.disks; swap = u.swap })
-    (subst (λ h. StopsEarly c.args.plan h old new (joined_seen g.R.D.Disk.seen) c.in-Err.back) (sym is) c.in-Err.ensures.err)
+    (subst (λ h. StopsEarly c.args.plan h old new (joined_seen (single_seen g.R.D.Disk.seen)) c.in-Err.back) (sym is) c.in-Err.ensures.err)
     c.in-Err.ensures.lacked
 
 pub place-requires-clause-sound : goal.place-requires-clause-sound
@@ -27,9 +28,9 @@ place-requires-clause-sound g c = c.setup_law.ensures.setup c.requires.read.spel
 pub returns-in-Err-place-clause-err : goal.returns-in-Err-place-clause-err
 returns-in-Err-place-clause-err g c = λ given o is asked before after sink0 sink1 st ft.
     let u = c.stop_unopened-in-Err-place.ensures in
-    stopped-early st ft given o (record { options = c.args.options; plan = c.args.plan }) asked 0 0 never-risen (g.K.Sink.seen c.args.out.now) sink0 sink1 (joined_seen g.R.D.Disk.seen) c.in-Err-place.back
+    stopped-early st ft given o (record { options = c.args.options; plan = c.args.plan }) asked 0 0 never-risen (g.K.Sink.seen c.args.out.now) sink0 sink1 (joined_seen (single_seen g.R.D.Disk.seen)) c.in-Err-place.back
     c.stop_unopened-in-Err-place.result (record { ending = u.ending; entries = u.entries; counts = u.counts; disks = u.disks; swap = u.swap })
-    (subst (λ h. StopsEarly c.args.plan h 0 0 (joined_seen g.R.D.Disk.seen) c.in-Err-place.back) (sym is)
+    (subst (λ h. StopsEarly c.args.plan h 0 0 (joined_seen (single_seen g.R.D.Disk.seen)) c.in-Err-place.back) (sym is)
     (c.in-Err-place.ensures.err (g.R.Rack.seen c.args.rack.now).holds 0 c.in-Ok.ensures.ok))
     (c.in-Err-place.ensures.lacked c.in-Ok.ensures.uncounted)
 
@@ -39,7 +40,7 @@ traced-requires-clause-placed g c =
     let p = c.in-Ok-place.ensures.ok holds c.in-Ok.ensures.ok in (
       holds,
       p.0,
-      placed-as c.place.new.plan c.args.plan holds p.0 (attached_seen (joined_seen g.R.D.Disk.seen) c.in-Ok-place.placed.attached) c.in-Ok-place.placed.files p.2 p.1,
+      placed-as c.place.new.plan c.args.plan holds p.0 (attached_seen (joined_seen (single_seen g.R.D.Disk.seen)) c.in-Ok-place.placed.attached) c.in-Ok-place.placed.files p.2 p.1,
     )
 
 pub traced-requires-clause-few_blocks : goal.traced-requires-clause-few_blocks
@@ -50,7 +51,7 @@ traced-requires-clause-few_blocks g c =
 pub returns-in-Ok-traced-clause-ready : goal.returns-in-Ok-traced-clause-ready
 returns-in-Ok-traced-clause-ready g c =
     let holds = (g.R.Rack.seen c.args.rack.now).holds in
-    let seen = (joined_seen g.R.D.Disk.seen) in
+    let seen = (joined_seen (single_seen g.R.D.Disk.seen)) in
     let a = attached_seen seen c.in-Ok-place.placed.attached in
     let made = c.in-Ok-place.placed.files in
     let p = c.in-Ok-place.ensures.ok holds c.in-Ok.ensures.ok in
@@ -71,7 +72,7 @@ returns-in-Ok-traced-clause-numbered g c = let p = c.in-Ok-place.ensures.ok (g.R
 pub returns-in-Err-traced-clause-err : goal.returns-in-Err-traced-clause-err
 returns-in-Err-traced-clause-err g c = λ given o is asked before after sink0 sink1 st ft.
     let holds = (g.R.Rack.seen c.args.rack.now).holds in
-    let seen = (joined_seen g.R.D.Disk.seen) in
+    let seen = (joined_seen (single_seen g.R.D.Disk.seen)) in
     let a = attached_seen seen c.in-Ok-place.placed.attached in
     let made = c.in-Ok-place.placed.files in
     let p = c.in-Ok-place.ensures.ok holds c.in-Ok.ensures.ok in
@@ -87,14 +88,14 @@ returns-in-Err-traced-clause-err g c = λ given o is asked before after sink0 si
 
 pub returns-in-Err-clause-back : goal.returns-in-Err-clause-back
 returns-in-Err-clause-back g c =
-    let seen = (joined_seen g.R.D.Disk.seen) in
+    let seen = (joined_seen (single_seen g.R.D.Disk.seen)) in
     let u = c.stop_unopened.ensures in
     c.in-Err.ensures.back
     ∙ ap (λ (n : ℕ). (g.R.Rack.seen c.args.rack.now).attached + n) (sym (count-as (λ v. map seen v.items) (option_map seen) _ _ _ _ u.disks u.swap))
 
 pub returns-in-Err-place-clause-back : goal.returns-in-Err-place-clause-back
 returns-in-Err-place-clause-back g c =
-    let seen = (joined_seen g.R.D.Disk.seen) in
+    let seen = (joined_seen (single_seen g.R.D.Disk.seen)) in
     let u = c.stop_unopened-in-Err-place.ensures in
     let same = count-as (λ v. map seen v.items) (option_map seen) _ _ _ _ u.disks u.swap in
     c.in-Ok.ensures.kept ∙ ap (λ (n : ℕ). (g.R.Rack.seen c.args.rack.now).attached + n) (sym (same ∙ c.in-Err-place.ensures.back))
@@ -103,14 +104,14 @@ pub returns-in-Ok-traced-clause-kept : goal.returns-in-Ok-traced-clause-kept
 returns-in-Ok-traced-clause-kept g c =
     let old = c.in-Ok-place.placed.attached in
     let new = c.traced.new.placed.attached in
-    let same = count-read (joined_seen g.R.D.Disk.seen) old.disks.items new.disks.items old.swap new.swap c.in-Ok-traced.ensures.disks c.in-Ok-traced.ensures.swap in
+    let same = count-read (joined_seen (single_seen g.R.D.Disk.seen)) old.disks.items new.disks.items old.swap new.swap c.in-Ok-traced.ensures.disks c.in-Ok-traced.ensures.swap in
     c.in-Ok.ensures.kept ∙ ap (λ (n : ℕ). (g.R.Rack.seen c.args.rack.now).attached + n) (sym (same ∙ c.in-Ok-place.ensures.kept))
 
 pub returns-in-Err-traced-clause-back : goal.returns-in-Err-traced-clause-back
 returns-in-Err-traced-clause-back g c =
     let old = c.in-Ok-place.placed.attached in
     let new = c.traced.new.placed.attached in
-    let same = count-read (joined_seen g.R.D.Disk.seen) old.disks.items new.disks.items old.swap new.swap c.in-Err-traced.ensures.disks c.in-Err-traced.ensures.swap in
+    let same = count-read (joined_seen (single_seen g.R.D.Disk.seen)) old.disks.items new.disks.items old.swap new.swap c.in-Err-traced.ensures.disks c.in-Err-traced.ensures.swap in
     c.in-Ok.ensures.kept ∙ ap (λ (n : ℕ). (g.R.Rack.seen c.args.rack.now).attached + n) (sym (c.stop_untraced.ensures.count ∙ same ∙ c.in-Ok-place.ensures.kept))
 
 pub returns-in-Ok-traced-clause-uncounted : goal.returns-in-Ok-traced-clause-uncounted

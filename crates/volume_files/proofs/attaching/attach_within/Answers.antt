@@ -12,6 +12,7 @@ use Rattle.volume_files.specs.Attached.{AreMounted, numbered_seen}
 use Rattle.volume_files.specs.Handed.{IsSwapAsGiven, IsSwapFor}
 use Rattle.volume_files.specs.Mounting.{Halts}
 use Rattle.volume_files.specs.Opened.{setup_volumes}
+use Rattle.volume_disks.specs.Singles.{single_seen}
 use Rattle.volume_files.proofs.MountEnds.{early, stopped_later, swap_stopped}
 use Rattle.volume_files.proofs.Unfailing.{bare-none, handed-none, swap-told, where-lacked}
 use Rattle.volume_files.proofs.attaching.attach_within.Goals as goal
@@ -24,7 +25,7 @@ mount_all-requires-clause-joins g c = λ κs lives. ap broken_join c.setup-2.ens
 
 pub returns-in-Err-mount_all-clause-err : goal.returns-in-Err-mount_all-clause-err
 returns-in-Err-mount_all-clause-err g c =
-    let seen = joined_seen g.R.D.Disk.seen in
+    let seen = joined_seen (single_seen g.R.D.Disk.seen) in
     let plan = c.args.plan.now in
     let first = g.R.Rack.seen c.args.rack.now in
     let mid = g.R.Rack.seen c.attach_swap.new.rack in
@@ -52,7 +53,7 @@ returns-in-Err-mount_all-clause-err g c =
 
 pub returns-in-Ok-mount_all-clause-ok : goal.returns-in-Ok-mount_all-clause-ok
 returns-in-Ok-mount_all-clause-ok g c =
-    let seen = joined_seen g.R.D.Disk.seen in
+    let seen = joined_seen (single_seen g.R.D.Disk.seen) in
     let plan = c.args.plan.now in
     let holds = (g.R.Rack.seen c.args.rack.now).holds in
     let disks = map (numbered_seen seen) c.mount_all.new.disks.items in
@@ -70,7 +71,7 @@ returns-in-Ok-mount_all-clause-ok g c =
 -- the swap disk wasn't attached
 pub returns-in-Err-clause-err : goal.returns-in-Err-clause-err
 returns-in-Err-clause-err g c =
-    let seen = joined_seen g.R.D.Disk.seen in
+    let seen = joined_seen (single_seen g.R.D.Disk.seen) in
     let plan = c.args.plan.now in
     let first = g.R.Rack.seen c.args.rack.now in
     let new = g.R.Rack.seen c.attach_swap.new.rack in
@@ -82,18 +83,18 @@ returns-in-Err-clause-err g c =
 
 pub returns-in-Err-clause-lacked : goal.returns-in-Err-clause-lacked
 returns-in-Err-clause-lacked g c = λ memory.
-    let seen = joined_seen g.R.D.Disk.seen in
+    let seen = joined_seen (single_seen g.R.D.Disk.seen) in
     let e = c.hand_back.ensures in
     handed-none seen [] None c.hand_back.result.disks.items c.hand_back.result.swap (e.disks ∙ ap (map (λ (d : NumberedDisk _). d.disk)) c.requires.disks.0)
     (e.swap ∙ ap (option_map (λ (d : NumberedDisk _). d.disk)) c.requires.swap) (record { each = All-nil (λ (d : DiskSeen). failures_told d ≡ 0); last = tt })
 
 pub returns-in-Ok-mount_all-clause-uncounted : goal.returns-in-Ok-mount_all-clause-uncounted
 returns-in-Ok-mount_all-clause-uncounted g c =
-    record { each = bare-none (map (numbered_seen (joined_seen g.R.D.Disk.seen)) c.mount_all.new.disks.items) c.in-Ok-mount_all.ensures.uncounted; last = swap-told _ c.in-Ok.ensures.unfailed }
+    record { each = bare-none (map (numbered_seen (joined_seen (single_seen g.R.D.Disk.seen))) c.mount_all.new.disks.items) c.in-Ok-mount_all.ensures.uncounted; last = swap-told _ c.in-Ok.ensures.unfailed }
 
 pub returns-in-Err-mount_all-clause-lacked : goal.returns-in-Err-mount_all-clause-lacked
 returns-in-Err-mount_all-clause-lacked g c = λ memory.
-    let seen = joined_seen g.R.D.Disk.seen in
+    let seen = joined_seen (single_seen g.R.D.Disk.seen) in
     let e = c.hand_back-in-Err-mount_all.ensures in
     let disks = c.mount_all.new.disks.items in
     let none = where-lacked {T = Unit {0}} (Err c.in-Err-mount_all.how) c.in-Err-mount_all.how refl (sym e.why ∙ memory) c.in-Err-mount_all.ensures.uncounted in
