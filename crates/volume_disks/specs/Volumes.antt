@@ -74,14 +74,15 @@ attached_count d = if is_some d then 1 else 0
 abbrev pub spec_count : VolumeSpec → ℕ
 spec_count v = 1 + attached_count (second_spec v)
 
--- Why a volume wasn't attached, by the disks that were: the rack failed at the next one, both are there and their sizes don't serve, or memory lacked (the first is there alone only where there is to be a second).
+-- Why a volume wasn't attached, by the disks that were: the rack failed at the next one, both are there and their sizes don't serve, or memory lacked (where there is to be a second, if the first is there; and both sizes serve, if both are).
 abbrev pub VolumeCause : {D : Type 0} → (D → DiskSeen) → RackSeen → RackSeen → VolumeSpec → Option (NumberedDisk D) → Option (NumberedDisk D) → VolumeStop → Type 0
 VolumeCause seen old new v None (Some second) why = ⊥
 VolumeCause seen old new v None None (stop.Failed f) = IsRackFault old new (spec_number (first_spec v)) (fault.Failed f)
 VolumeCause seen old new v (Some first) None (stop.Failed f) = IsSomeAnd (second_spec v) (λ s. IsRackFault old new (spec_number s) (fault.Failed f))
 VolumeCause seen old new v (Some first) (Some second) (stop.Failed f) = ⊥
+VolumeCause seen old new v None None stop.Memory = new.faults ≡ old.faults
 VolumeCause seen old new v (Some first) None stop.Memory = (new.faults ≡ old.faults) × IsSome (second_spec v)
-VolumeCause seen old new v first second stop.Memory = new.faults ≡ old.faults
+VolumeCause seen old new v (Some first) (Some second) stop.Memory = (new.faults ≡ old.faults) × (size_fault (sized seen first) (sized seen second) ≡ None)
 VolumeCause seen old new v (Some first) (Some second) why = (new.faults ≡ old.faults) × (size_fault (sized seen first) (sized seen second) ≡ Some why)
 VolumeCause seen old new v first second why = ⊥
 

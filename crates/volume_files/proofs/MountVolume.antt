@@ -57,8 +57,7 @@ module _ {D : Type 0} (seen : D → DiskSeen) (has : (d : D) → HasBlocks (seen
   plain_halts s None None (stop.Size n) one two c = absurd c
   plain_halts s None None stop.Unequal one two c = absurd c
   plain_halts s (Some d) None (stop.Failed f) one two c = absurd c
-  plain_halts s (Some d) None stop.Memory one two c =
-      inr (inl (record { disk = numbered_seen seen d; given = given_one s d one; behind = append-nil (front ++ numbered_seen seen d ∷ []); cause = tt }))
+  plain_halts s (Some d) None stop.Memory one two c = absurd c.1
   plain_halts s (Some d) None (stop.Size n) one two c = absurd c
   plain_halts s (Some d) None stop.Unequal one two c = absurd c
 
@@ -106,7 +105,7 @@ module _ {D : Type 0} (seen : D → DiskSeen) (has : (d : D) → HasBlocks (seen
       one_whole = has a.disk;
       two_whole = has b.disk;
       behind = append_assoc front (numbered_seen seen a ∷ []) (numbered_seen seen b ∷ []);
-      cause = tt;
+      cause = c.1;
     })))
     joined_halts (Some a) (Some b) (stop.Size n) one two c = inr (inr (inr (record {
       first = s;
@@ -154,8 +153,8 @@ stop_still : {D : Type 0} (T : Type 0) (seen : D → DiskSeen) (old new : RackSe
 stop_still T seen old new v first second (stop.Failed f) c = tt
 stop_still T seen old new v None (Some b) stop.Memory c = absurd c
 stop_still T seen old new v None None stop.Memory c = c
-stop_still T seen old new v (Some a) None stop.Memory c = c
-stop_still T seen old new v (Some a) (Some b) stop.Memory c = c
+stop_still T seen old new v (Some a) None stop.Memory c = c.0
+stop_still T seen old new v (Some a) (Some b) stop.Memory c = c.0
 stop_still T seen old new v None (Some b) (stop.Size n) c = absurd c
 stop_still T seen old new v None None (stop.Size n) c = absurd c
 stop_still T seen old new v (Some a) None (stop.Size n) c = absurd c

@@ -101,11 +101,11 @@ pub record HaltsFirst (holds : Holds) (s : VolumeSpec) (old new : ℕ) (front di
   pub behind : disks ≡ front ++ disk ∷ []
   pub cause : UngivenCause (spec_number second) old new how
 
--- Both were attached, and weren't joined: their sizes don't serve, or memory lacked.
+-- Both were attached, and weren't joined: their sizes don't serve, or they do and memory lacked.
 abbrev pub UnfitCause : ℕ × DiskSeen → ℕ × DiskSeen → OpenStop → Type 0
 UnfitCause a b (halt.Refused r) = option_and_then size_refusal (size_fault (a.0, a.1.size) (b.0, b.1.size)) ≡ Some r
 UnfitCause a b (halt.Failed f) = ⊥
-UnfitCause a b halt.Memory = Unit {0}
+UnfitCause a b halt.Memory = size_fault (a.0, a.1.size) (b.0, b.1.size) ≡ None
 
 pub record HaltsUnfit (holds : Holds) (s : VolumeSpec) (front disks : List (ℕ × DiskSeen)) (how : OpenStop) : Type 0 where
   pub first : Spec
