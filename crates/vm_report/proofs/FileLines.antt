@@ -1,15 +1,14 @@
 -- The lines of a file's bytes, piece by piece, and the last of a call's entries.
-use Rattle.std.proofs.Common.{◌≡◌, ℕ, zero, suc, ◌≤◌, ◌<◌, ◌+◌, ◌*◌, ◌/◌, ◌%◌, List, [], ◌∷◌, ◌++◌, length, map, take, drop, min, Bor, refl, sym, ap, ap₂, ◌∙◌, append_assoc, append-nil, get_or, arith, ⊎_elim, ◌==◌, true}
+use Rattle.std.proofs.Common.{◌≡◌, ℕ, zero, suc, ◌≤◌, ◌<◌, ◌+◌, ◌*◌, ◌/◌, ◌%◌, List, [], ◌∷◌, ◌++◌, length, take, drop, min, refl, sym, ap, ap₂, ◌∙◌, append_assoc, append-nil, get_or, arith, ⊎_elim, ◌==◌, true}
 use Rattle.std.proofs.lemmas.Bool.{and_parts, cases_lt, cond-true}
 use Rattle.std.proofs.lemmas.List.Folds.{list_all-append}
-use Rattle.std.proofs.lemmas.List.{take-append-drop, take_all, drop_all, take-append-le, drop-append-le, length-append, length-drop, length-map, length-take}
+use Rattle.std.proofs.lemmas.List.{take-append-drop, take_all, drop_all, take-append-le, drop-append-le, length-append, length-drop, length-take}
 use Rattle.std.specs.List.{list_all}
 use Rattle.vm_script.specs.Texts.{hex_text}
 use Rattle.vm_script.specs.vm_types.Words.{word_bytes}
 use Rattle.vm_script.specs.vm_types.declared.call.Entry.{Entry}
 use Rattle.vm_report.specs.Report.{file_line, file_lines, pieces_text}
 use Rattle.vm_report.specs.Results.{failure_of, failure_text}
-use Rattle.vm_report.proofs.Blocks.{seen_at}
 
 short : (at : ℕ) (bytes : List ℕ) (k : ℕ) → k ≡ length bytes → 0 < length bytes → length bytes < 32
     → file_lines at bytes ≡ file_line at (take k bytes) ++ file_lines (at + k) (drop k bytes)
@@ -103,7 +102,5 @@ failure_at (x ∷ []) (suc i) d e = absurd (omega arith)
 failure_at (x ∷ y ∷ es) zero d e = absurd (omega arith)
 failure_at (x ∷ y ∷ es) (suc i) d e = failure_at (y ∷ es) i d (omega arith)
 
-pub failure_last : (xs : List (Bor Entry)) (x : Bor Entry) (i : ℕ) → i + 1 ≡ length xs → x ≡ get_or xs i x → failure_text (map (λ e. e.now) xs) ≡ failure_of x.now
-failure_last xs x i last is =
-    let whole : i + 1 ≡ length (map (λ (e : Bor Entry). e.now) xs) = rw length-map last in
-    failure_at (map (λ (e : Bor Entry). e.now) xs) i x.now whole ∙ ap failure_of (sym (seen_at (λ (e : Bor Entry). e.now) xs i x (omega arith) is))
+pub failure_last : (es : List Entry) (e : Entry) (i : ℕ) → i + 1 ≡ length es → e ≡ get_or es i e → failure_text es ≡ failure_of e
+failure_last es e i last is = failure_at es i e last ∙ ap failure_of (sym is)

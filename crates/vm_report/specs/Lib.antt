@@ -1,8 +1,11 @@
 pub mod Faults
 pub mod Groups
 pub mod Laws
+pub mod Pieces
+pub mod PiecesInside
 pub mod Report
 pub mod Results
+pub mod Runs
 pub mod Summary
 pub mod Texts
 pub mod Trace

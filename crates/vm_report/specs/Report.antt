@@ -48,6 +48,10 @@ abbrev pub lines_text : List PlanLine → List Entry → List ℕ
 lines_text [] es = []
 lines_text (l ∷ lines) es = own_text l (take (entries_made l es) es) ++ lines_text lines (drop (entries_made l es) es)
 
+-- The heading of a process's section, by whether it was born.
+abbrev pub section_heading : ℕ → Bool → List ℕ
+section_heading p born = codes "process " ++ decimal p ++ (if born then 10 ∷ [] else codes " not born" ++ 10 ∷ [])
+
 -- The section of a process, by whether it was born, its lines and its entries.
 abbrev pub section_text : ℕ → Bool → List PlanLine → List Entry → List ℕ
 section_text p born lines es =

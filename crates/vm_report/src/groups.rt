@@ -1,10 +1,13 @@
 //! The lines and the entries of each process, each made in one pass.
-ghost use Rattle.std.specs.Prelude.{ℕ, ◌≡◌, ◌++◌, ◌∷◌, ◌+◌, ◌<◌, ◌==◌, [], filter, length, map, replicate, slice_index_or, false, IfOk, OnOk};
+ghost use Rattle.std.specs.Prelude.{ℕ, ◌≡◌, ◌++◌, ◌∷◌, ◌+◌, ◌-◌, ◌<◌, ◌^◌, ◌==◌, [], All, List, filter, length, map, replicate, slice_index_or, false, IfOk, OnOk};
 ghost use Rattle.std.specs.List.{list_any};
 ghost use Rattle.vm_script.specs.flat_model.Told.{entries_of};
 ghost use Rattle.vm_script.specs.Told.{is_birth};
+ghost use Rattle.vm_script.specs.vm_types.declared.call.Entry.{Entry as EntrySeen};
 ghost use Rattle.vm_report.specs.Groups.{with_member, with_birth};
+ghost use Rattle.vm_report.specs.Runs.{AreWithin, no_runs, runs_seen};
 
+use crate::runs::Runs;
 use std::alloc::{AllocError, Global};
 use std::marker::Model;
 use vm_script::{Call, Entry, PlanLine, Reply};
@@ -69,19 +72,46 @@ fn add_to<'a, T>(
     Ok(())
 }
 
+fn empty_runs(alloc: Global, count: usize) -> Result<Vec<Runs>, AllocError>
+    ensures { IfOk result (λ groups. groups.items ≡ replicate count no_runs) }
+{
+    let mut groups = Vec::new(alloc);
+    for _ in 0..count {
+        groups.push(Runs::new(alloc))?;
+    }
+    Ok(groups)
+}
+
+fn add_entry(groups: &mut Vec<Runs>, process: u32, index: u32) -> Result<(), AllocError>
+    requires { index < 2 ^ 32 - 1 }
+    ensures seen { OnOk result ((H : List EntrySeen) (e : EntrySeen) → index < length H
+        → e ≡ slice_index_or H index e → map (runs_seen H) groups.new.items
+        ≡ with_member (map (runs_seen H) groups.old.items) process e) }
+    ensures within { OnOk result ((n : ℕ) → index < n
+        → All (AreWithin n) groups.old.items → All (AreWithin n) groups.new.items) }
+{
+    if let Some(group) = groups.get_mut(process as usize) {
+        group.add(index)?;
+    }
+    Ok(())
+}
+
 /// The entries of each process below `count`.
-pub fn entries_by_process<'a>(
+pub fn entries_by_process(
     alloc: Global,
-    history: &'a [Entry],
+    history: &[Entry],
     count: usize,
-) -> Result<Vec<Group<'a, Entry>>, AllocError>
+) -> Result<Vec<Runs>, AllocError>
+    requires few { length history.now < 2 ^ 32 }
     ensures count { IfOk result (λ groups. length groups.items ≡ count) }
     ensures each { IfOk result (λ groups. (p : ℕ) → p < count →
-        slice_index_or groups.items p [] ≡ entries_of history.now p) }
+        slice_index_or (map (runs_seen history.now) groups.items) p []
+        ≡ entries_of history.now p) }
+    ensures within { IfOk result (λ groups. All (AreWithin (length history.now)) groups.items) }
 {
-    let mut groups = empty_groups(alloc, count)?;
-    for entry in history {
-        add_to(&mut groups, entry.process, entry)?;
+    let mut groups = empty_runs(alloc, count)?;
+    for index in 0..history.len() {
+        add_entry(&mut groups, history[index].process, index as u32)?;
     }
     Ok(groups)
 }

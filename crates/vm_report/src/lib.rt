@@ -2,13 +2,16 @@
 //! of a script that can't be run and of faults.
 #![tactic(auto)]
 
+mod cursors;
 mod faults;
 mod files;
 mod groups;
 mod laws;
 mod line_results;
+mod pieces;
 mod quick;
 mod results;
+mod runs;
 mod sections;
 mod summaries;
 mod text;
@@ -20,7 +23,8 @@ pub use faults::{
 };
 pub use files::{file_heading, file_line, file_lines};
 pub use laws::{file_lines_law, own_entries_law};
-pub use sections::{process_section, process_sections};
+pub use pieces::{SectionsLeft, process_sections};
+pub use sections::process_section;
 pub use summaries::summary;
 pub use traces::{
     trace_count, trace_disk, trace_entries, trace_entry, trace_file, trace_opening, trace_root,

@@ -1,5 +1,5 @@
 //! The result of a line, by the entries that it made.
-ghost use Rattle.std.specs.Prelude.{◌≡◌, ◌≤◌, ◌<◌, ◌^◌, ◌++◌, [], All, length, map, OnOk};
+ghost use Rattle.std.specs.Prelude.{◌≡◌, ◌≤◌, ◌<◌, ◌^◌, ◌++◌, [], All, length, OnOk};
 ghost use Rattle.vm_script.specs.vm_types.WellFormed.{IsWellFormed};
 ghost use Rattle.vm_script.specs.Texts.{hex_text};
 ghost use Rattle.vm_report.specs.Results as results;
@@ -27,15 +27,15 @@ fn push_failure_of(out: &mut Vec<u8>, entry: &Entry) -> Result<(), AllocError>
 }
 
 // Where the last part was refused or met a device error, adds that.
-fn push_failure(out: &mut Vec<u8>, entries: &[&Entry]) -> Result<(), AllocError>
-    requires well_formed { All (λ e. IsWellFormed e.now.call) entries.now }
+fn push_failure(out: &mut Vec<u8>, entries: &[Entry]) -> Result<(), AllocError>
+    requires well_formed { All (λ e. IsWellFormed e.call) entries.now }
     ensures { OnOk result (out.new.items
-        ≡ out.old.items ++ results.failure_text (map (λ e. e.now) entries.now)) }
+        ≡ out.old.items ++ results.failure_text entries.now) }
 {
     if entries.is_empty() {
         return Ok(());
     }
-    push_failure_of(out, entries[entries.len() - 1])
+    push_failure_of(out, &entries[entries.len() - 1])
 }
 
 fn bytes_of_reply(reply: &Reply) -> &[u8]
@@ -51,9 +51,9 @@ fn bytes_of_reply(reply: &Reply) -> &[u8]
     }
 }
 
-fn count_read(entries: &[&Entry]) -> u64
+fn count_read(entries: &[Entry]) -> u64
     requires few { length entries.now < 2 ^ 32 }
-    ensures { result ≡ length (results.bytes_read (map (λ e. e.now) entries.now)) }
+    ensures { result ≡ length (results.bytes_read entries.now) }
 {
     let mut count = 0;
     let mut left = entries;
@@ -64,9 +64,9 @@ fn count_read(entries: &[&Entry]) -> u64
     count
 }
 
-fn push_bytes_read(out: &mut Vec<u8>, entries: &[&Entry]) -> Result<(), AllocError>
+fn push_bytes_read(out: &mut Vec<u8>, entries: &[Entry]) -> Result<(), AllocError>
     ensures { OnOk result (out.new.items ≡ out.old.items
-        ++ hex_text (results.bytes_read (map (λ e. e.now) entries.now))) }
+        ++ hex_text (results.bytes_read entries.now)) }
 {
     let mut left = entries;
     while let [entry, rest @ ..] = left {
@@ -76,10 +76,10 @@ fn push_bytes_read(out: &mut Vec<u8>, entries: &[&Entry]) -> Result<(), AllocErr
     Ok(())
 }
 
-fn push_read_bytes(out: &mut Vec<u8>, entries: &[&Entry]) -> Result<(), AllocError>
+fn push_read_bytes(out: &mut Vec<u8>, entries: &[Entry]) -> Result<(), AllocError>
     requires few { length entries.now < 2 ^ 32 }
     ensures { OnOk result (out.new.items ≡ out.old.items
-        ++ results.bytes_text (results.bytes_read (map (λ e. e.now) entries.now))) }
+        ++ results.bytes_text (results.bytes_read entries.now)) }
 {
     let count = count_read(entries);
     push_decimal(out, count)?;
@@ -100,9 +100,9 @@ fn bytes_done(call: &Call, reply: &Reply) -> u64
     }
 }
 
-fn bytes_written(entries: &[&Entry]) -> u64
+fn bytes_written(entries: &[Entry]) -> u64
     requires few { length entries.now < 2 ^ 32 }
-    ensures { result ≡ results.bytes_written (map (λ e. e.now) entries.now) }
+    ensures { result ≡ results.bytes_written entries.now }
 {
     let mut count = 0;
     let mut left = entries;
@@ -114,11 +114,11 @@ fn bytes_written(entries: &[&Entry]) -> u64
 }
 
 /// Adds the result of a line that made these entries.
-pub fn push_line_result(out: &mut Vec<u8>, entries: &[&Entry]) -> Result<(), AllocError>
+pub fn push_line_result(out: &mut Vec<u8>, entries: &[Entry]) -> Result<(), AllocError>
     requires few { length entries.now < 2 ^ 32 }
-    requires well_formed { All (λ e. IsWellFormed e.now.call) entries.now }
+    requires well_formed { All (λ e. IsWellFormed e.call) entries.now }
     ensures { OnOk result (out.new.items
-        ≡ out.old.items ++ results.line_result (map (λ e. e.now) entries.now)) }
+        ≡ out.old.items ++ results.line_result entries.now) }
 {
     let [first, ..] = entries else {
         return Ok(());

@@ -1,16 +1,20 @@
 //! The sections of processes.
-ghost use Rattle.std.specs.Prelude.{◌≡◌, ◌≤◌, ◌<◌, ◌^◌, ◌+◌, ◌++◌, ◌∷◌, ◌==◌, [], false, All, length, map, filter, take, codes, IsTrue, OnOk, IfOk};
+ghost use Rattle.std.specs.Prelude.{ℕ, ◌≡◌, ◌≤◌, ◌<◌, ◌^◌, ◌-◌, ◌++◌, ◌∷◌, ◌==◌, [], false, All, List, length, map, filter, take, drop, slice_index_or, codes, IsTrue, OnOk, IfOk, IfSome};
 ghost use Rattle.std.specs.List.{list_any};
 ghost use Rattle.vm_script.specs.vm_types.WellFormed.{IsWellFormed};
+ghost use Rattle.vm_script.specs.vm_types.declared.call.Entry.{Entry as EntrySeen};
 ghost use Rattle.vm_script.specs.flat_model.Told.{entries_of};
 ghost use Rattle.vm_script.specs.Told.{is_birth};
 ghost use Rattle.vm_report.specs.Groups.{is_born_by};
+ghost use Rattle.vm_report.specs.PiecesInside.{IsLeftOf, lines_left};
 ghost use Rattle.vm_report.specs.Report as report;
+ghost use Rattle.vm_report.specs.Runs.{AreWithin, entries_left, runs_seen};
 
-use crate::groups::{births_of, entries_by_process, lines_by_process};
+use crate::cursors::{Cursor, first_place, pass, take_call};
 use crate::line_results::push_line_result;
 use crate::quick::{push_loaded, push_stored};
 use crate::results::word_of_call;
+use crate::runs::Runs;
 use crate::text::{end_line, push_number, push_space, push_text};
 use std::alloc::{AllocError, Global};
 use vm_script::{Call, Entry, Plan, PlanAct, PlanLine, Reply, ends_call};
@@ -46,28 +50,30 @@ fn is_store(act: &PlanAct) -> bool
     matches!(act, PlanAct::Call(Call::Store { .. }))
 }
 
-// How many of the entries belong to the call that the first one begins.
-fn call_length(entries: &[&Entry]) -> usize
-    requires well_formed { All (λ e. IsWellFormed e.now.call) entries.now }
-    ensures made { result ≡ report.call_length (map (λ e. e.now) entries.now) }
-    ensures inside { result ≤ length entries.now }
+// How many of the entries belong to the call that the first one begins; None where none of them ends
+// it.
+fn call_length(entries: &[Entry]) -> Option<usize>
+    requires well_formed { All (λ e. IsWellFormed e.call) entries.now }
+    ensures made { IfSome result (λ count. (behind : List EntrySeen)
+        → count ≡ report.call_length (entries.now ++ behind)) }
+    ensures inside { IfSome result (λ count. count ≤ length entries.now) }
 {
     let mut count = 0;
     for entry in entries {
         count += 1;
         if ends_call(&entry.call, &entry.reply) {
-            return count;
+            return Some(count);
         }
     }
-    count
+    None
 }
 
 // Adds a line's own line.
-fn push_line(out: &mut Vec<u8>, line: &PlanLine, entries: &[&Entry]) -> Result<(), AllocError>
+fn push_line(out: &mut Vec<u8>, line: &PlanLine, entries: &[Entry]) -> Result<(), AllocError>
     requires few { length entries.now < 2 ^ 32 }
-    requires well_formed { All (λ e. IsWellFormed e.now.call) entries.now }
+    requires well_formed { All (λ e. IsWellFormed e.call) entries.now }
     ensures { OnOk result (out.new.items
-        ≡ out.old.items ++ report.line_text line.now (map (λ e. e.now) entries.now)) }
+        ≡ out.old.items ++ report.line_text line.now entries.now) }
 {
     push_number(out, line.line)?;
     push_space(out)?;
@@ -77,73 +83,179 @@ fn push_line(out: &mut Vec<u8>, line: &PlanLine, entries: &[&Entry]) -> Result<(
     end_line(out)
 }
 
-// How many of the entries a line made, none for a wait.
-fn entries_made(line: &PlanLine, entries: &[&Entry]) -> usize
-    requires well_formed { All (λ e. IsWellFormed e.now.call) entries.now }
-    ensures made { result ≡ report.entries_made line.now (map (λ e. e.now) entries.now) }
-    ensures inside { result ≤ length entries.now }
-{
-    if is_wait(&line.act) {
-        return 0;
-    }
-    call_length(entries)
+// What a line that was added leaves of its process's entries, and whether it made several of them.
+#[derive(Clone, Copy)]
+struct Added<'a> {
+    left: Cursor<'a>,
+    several: bool,
 }
 
-// Adds what a line prints that made these entries; a wait prints nothing.
-fn push_own(out: &mut Vec<u8>, line: &PlanLine, own: &[&Entry]) -> Result<(), AllocError>
-    requires few { length own.now < 2 ^ 32 }
-    requires well_formed { All (λ e. IsWellFormed e.now.call) own.now }
-    ensures text { OnOk result (out.new.items
-        ≡ out.old.items ++ report.own_text line.now (map (λ e. e.now) own.now)) }
+// Adds a line's own line, which made a call, and passes the entries of that. They are copied only
+// where another process made an entry between them.
+fn push_call<'a>(
+    out: &mut Vec<u8>,
+    line: &PlanLine,
+    history: &'a [Entry],
+    runs: &Runs,
+    at: Cursor<'a>,
+) -> Result<Added<'a>, AllocError>
+    requires within { AreWithin (length history.now) runs.now }
+    requires whole { at.front.now ≡ [] → entries_left history.now runs.now at ≡ [] }
+    requires few { length (entries_left history.now runs.now at) < 2 ^ 32 }
+    requires well_formed { All (λ e. IsWellFormed e.call) (entries_left history.now runs.now at) }
+    // What the line prints, and what is left.
+    ensures text { OnOk result (out.new.items ≡ out.old.items ++ report.line_text line.now
+        (take (report.call_length (entries_left history.now runs.now at.entry))
+        (entries_left history.now runs.now at.entry))) }
+    ensures left { IfOk result (λ added. entries_left history.now runs.now added.left
+        ≡ drop (report.call_length (entries_left history.now runs.now at.entry))
+        (entries_left history.now runs.now at.entry)) }
+    ensures whole { IfOk result (λ added.
+        added.left.front.now ≡ [] → entries_left history.now runs.now added.left ≡ []) }
 {
-    if is_wait(&line.act) {
-        return Ok(());
+    if let Some(count) = call_length(at.front) {
+        let (own, _) = at.front.split_at(count);
+        push_line(out, line, own)?;
+        return Ok(Added {
+            left: pass(history, runs, at, count),
+            several: 1 < count,
+        });
     }
-    push_line(out, line, own)
+    let mut call = Vec::new(*out.allocator());
+    let left = take_call(history, runs, at, &mut call)?;
+    push_line(out, line, &call)?;
+    Ok(Added {
+        left,
+        several: true,
+    })
 }
 
-// Adds what a line prints that made the first of these entries, and answers how many it made.
-fn push_next(out: &mut Vec<u8>, line: &PlanLine, entries: &[&Entry]) -> Result<usize, AllocError>
-    requires few { length entries.now < 2 ^ 32 }
-    requires well_formed { All (λ e. IsWellFormed e.now.call) entries.now }
-    ensures made { IfOk result (λ count.
-        count ≡ report.entries_made line.now (map (λ e. e.now) entries.now)) }
-    ensures inside { IfOk result (λ count. count ≤ length entries.now) }
-    ensures text { IfOk result (λ count. out.new.items ≡ out.old.items
-        ++ report.own_text line.now (take count (map (λ e. e.now) entries.now))) }
+// Adds what a line prints that made the first of these entries; a wait made none, and prints
+// nothing.
+fn push_next<'a>(
+    out: &mut Vec<u8>,
+    line: &PlanLine,
+    history: &'a [Entry],
+    runs: &Runs,
+    at: Cursor<'a>,
+) -> Result<Added<'a>, AllocError>
+    requires within { AreWithin (length history.now) runs.now }
+    requires whole { at.front.now ≡ [] → entries_left history.now runs.now at ≡ [] }
+    requires few { length (entries_left history.now runs.now at) < 2 ^ 32 }
+    requires well_formed { All (λ e. IsWellFormed e.call) (entries_left history.now runs.now at) }
+    // What the line prints, and what is left.
+    ensures text { OnOk result (out.new.items ≡ out.old.items ++ report.own_text line.now
+        (take (report.entries_made line.now (entries_left history.now runs.now at.entry))
+        (entries_left history.now runs.now at.entry))) }
+    ensures left { IfOk result (λ added. entries_left history.now runs.now added.left
+        ≡ drop (report.entries_made line.now (entries_left history.now runs.now at.entry))
+        (entries_left history.now runs.now at.entry)) }
+    ensures whole { IfOk result (λ added.
+        added.left.front.now ≡ [] → entries_left history.now runs.now added.left ≡ []) }
 {
-    if let [entry, ..] = entries {
+    if let [entry, ..] = at.front {
         match (&entry.call, &entry.reply) {
             (Call::Load { size, .. }, Reply::Word(value)) if is_load(&line.act) => {
                 push_loaded(out, line.line, *size, *value)?;
-                return Ok(1);
+                return Ok(Added {
+                    left: pass(history, runs, at, 1),
+                    several: false,
+                });
             }
             (Call::Store { .. }, Reply::Done) if is_store(&line.act) => {
                 push_stored(out, line.line)?;
-                return Ok(1);
+                return Ok(Added {
+                    left: pass(history, runs, at, 1),
+                    several: false,
+                });
             }
             _ => {}
         }
     }
-    let count = entries_made(line, entries);
-    let (own, _) = entries.split_at(count);
-    push_own(out, line, own)?;
-    Ok(count)
+    if is_wait(&line.act) {
+        return Ok(Added {
+            left: at,
+            several: false,
+        });
+    }
+    push_call(out, line, history, runs, at)
+}
+
+// Where a piece of a report ends: behind the first call of several parts with which it is this long.
+const LONG: usize = 65_536;
+
+/// Adds what the next lines of a block print, from a line and a place in the entries of its process
+/// on, and answers where it stopped. It stops behind a call of several parts, the line of which may
+/// be long.
+pub fn push_next_lines<'a>(
+    out: &mut Vec<u8>,
+    lines: &[&PlanLine],
+    history: &'a [Entry],
+    runs: &Runs,
+    line: usize,
+    place: Cursor<'a>,
+) -> Result<(usize, Cursor<'a>), AllocError>
+    requires within { AreWithin (length history.now) runs.now }
+    requires line { line < length lines.now }
+    requires whole { place.front.now ≡ [] → entries_left history.now runs.now place ≡ [] }
+    requires few { length (entries_left history.now runs.now place) < 2 ^ 32 }
+    requires well_formed { All (λ e. IsWellFormed e.call)
+        (entries_left history.now runs.now place) }
+    // What the lines print, and what is left.
+    ensures text { IfOk result (λ at.
+        out.new.items ++ lines_left lines.now at.0 (entries_left history.now runs.now at.1)
+        ≡ out.old.items
+        ++ lines_left lines.now line (entries_left history.now runs.now place.entry)) }
+    ensures more { IfOk result (λ at. line < at.0) }
+    ensures inside { IfOk result (λ at. at.0 ≤ length lines.now) }
+    ensures left { IfOk result (λ at. IsLeftOf history.now runs.now place.entry at.1) }
+{
+    let mut at = line;
+    let mut left = place;
+    while at < lines.len() {
+        let added = push_next(out, lines[at], history, runs, left)?;
+        at += 1;
+        left = added.left;
+        if added.several && LONG <= out.len() {
+            return Ok((at, left));
+        }
+    }
+    Ok((at, left))
 }
 
 // Adds what the lines of a block print.
-fn push_lines(out: &mut Vec<u8>, lines: &[&PlanLine], entries: &[&Entry]) -> Result<(), AllocError>
-    requires few { length entries.now < 2 ^ 32 }
-    requires well_formed { All (λ e. IsWellFormed e.now.call) entries.now }
+fn push_lines(
+    out: &mut Vec<u8>,
+    lines: &[&PlanLine],
+    history: &[Entry],
+    runs: &Runs,
+) -> Result<(), AllocError>
+    requires within { AreWithin (length history.now) runs.now }
+    requires few { length (runs_seen history.now runs.now) < 2 ^ 32 }
+    requires well_formed { All (λ e. IsWellFormed e.call) (runs_seen history.now runs.now) }
     ensures { OnOk result (out.new.items ≡ out.old.items
-        ++ report.lines_text (map (λ l. l.now) lines.now) (map (λ e. e.now) entries.now)) }
+        ++ report.lines_text (map (λ l. l.now) lines.now) (runs_seen history.now runs.now)) }
 {
-    let mut begin = 0;
-    for line in lines {
-        let (_, left) = entries.split_at(begin);
-        begin += push_next(out, line, left)?;
+    let mut line = 0;
+    let mut place = first_place(history, runs);
+    while line < lines.len() {
+        (line, place) = push_next_lines(out, lines, history, runs, line, place)?;
     }
     Ok(())
+}
+
+/// Adds the heading of a process's section.
+pub fn push_heading(out: &mut Vec<u8>, process: u32, born: bool) -> Result<(), AllocError>
+    ensures { OnOk result
+        (out.new.items ≡ out.old.items ++ report.section_heading process born) }
+{
+    push_text(out, b"process ")?;
+    push_number(out, process)?;
+    if born {
+        end_line(out)
+    } else {
+        push_text(out, b" not born\n")
+    }
 }
 
 fn push_section(
@@ -151,21 +263,21 @@ fn push_section(
     process: u32,
     born: bool,
     lines: &[&PlanLine],
-    entries: &[&Entry],
+    history: &[Entry],
+    runs: &Runs,
 ) -> Result<(), AllocError>
-    requires few { length entries.now < 2 ^ 32 }
-    requires well_formed { All (λ e. IsWellFormed e.now.call) entries.now }
+    requires within { AreWithin (length history.now) runs.now }
+    requires few { length (runs_seen history.now runs.now) < 2 ^ 32 }
+    requires well_formed { All (λ e. IsWellFormed e.call) (runs_seen history.now runs.now) }
     ensures { OnOk result (out.new.items ≡ out.old.items
         ++ report.section_text process born (map (λ l. l.now) lines.now)
-        (map (λ e. e.now) entries.now)) }
+        (runs_seen history.now runs.now)) }
 {
-    push_text(out, b"process ")?;
-    push_number(out, process)?;
-    if !born {
-        return push_text(out, b" not born\n");
+    push_heading(out, process, born)?;
+    if born {
+        push_lines(out, lines, history, runs)?;
     }
-    end_line(out)?;
-    push_lines(out, lines, entries)
+    Ok(())
 }
 
 fn is_birth(process: u32, entry: &Entry) -> bool
@@ -183,8 +295,8 @@ fn is_forked(process: u32, history: &[Entry]) -> bool
     history.iter().any(|e| is_birth(process, e))
 }
 
-// Whether a process was born: it is a top process, or its fork was done.
-fn is_born_by(parents: &[u32], process: u32, forked: bool) -> bool
+/// Whether a process was born: it is a top process, or its fork was done.
+pub fn is_born_by(parents: &[u32], process: u32, forked: bool) -> bool
     ensures { result ≡ is_born_by parents.now process forked }
 {
     if process == 0 {
@@ -228,34 +340,32 @@ fn push_own_line<'a>(
     Ok(())
 }
 
-fn entries_of_process<'a>(
-    alloc: Global,
-    history: &'a [Entry],
-    process: u32,
-) -> Result<Vec<&'a Entry>, AllocError>
-    ensures { IfOk result (λ v. map (λ e. e.now) v.items ≡ entries_of history.now process) }
-{
-    let mut own = Vec::new(alloc);
-    let mut left = history;
-    while let [entry, rest @ ..] = left {
-        push_own_entry(&mut own, entry, process)?;
-        left = rest;
-    }
-    Ok(own)
-}
-
-fn push_own_entry<'a>(
-    own: &mut Vec<&'a Entry>,
-    entry: &'a Entry,
-    process: u32,
-) -> Result<(), AllocError>
-    ensures { OnOk result (map (λ e. e.now) own.new.items
-        ≡ map (λ e. e.now) own.old.items ++ entries_of (entry.now ∷ []) process) }
+// Adds an entry of a history to the runs of a process, where it is one of its.
+fn add_own(runs: &mut Runs, process: u32, entry: &Entry, index: u32) -> Result<(), AllocError>
+    requires { index < 2 ^ 32 - 1 }
+    ensures seen { OnOk result ((H : List EntrySeen) → index < length H
+        → entry.now ≡ slice_index_or H index entry.now
+        → runs_seen H runs.new ≡ runs_seen H runs.old ++ entries_of (entry.now ∷ []) process) }
+    ensures within { OnOk result ((n : ℕ) → index < n
+        → AreWithin n runs.old → AreWithin n runs.new) }
 {
     if entry.process == process {
-        own.push(entry)?;
+        runs.add(index)?;
     }
     Ok(())
+}
+
+fn entries_of_process(alloc: Global, history: &[Entry], process: u32) -> Result<Runs, AllocError>
+    requires few { length history.now < 2 ^ 32 }
+    ensures seen { IfOk result (λ runs.
+        runs_seen history.now runs ≡ entries_of history.now process) }
+    ensures within { IfOk result (AreWithin (length history.now)) }
+{
+    let mut own = Runs::new(alloc);
+    for index in 0..history.len() {
+        add_own(&mut own, process, &history[index], index as u32)?;
+    }
+    Ok(own)
 }
 
 /// Adds the section of one process. It goes over the plan and the history for it alone;
@@ -274,30 +384,6 @@ pub fn process_section(
     let alloc = *out.allocator();
     let born = is_born_by(plan.parents(), process, is_forked(process, history));
     let lines = lines_of(alloc, plan.lines(), process)?;
-    let entries = entries_of_process(alloc, history, process)?;
-    push_section(out, process, born, &lines, &entries)
-}
-
-/// Adds the sections of all processes, in order of number. It goes over the plan once and over the
-/// history twice, however many processes there are.
-pub fn process_sections(plan: &Plan, history: &[Entry], out: &mut Vec<u8>) -> Result<(), AllocError>
-    requires few { length history.now < 2 ^ 32 }
-    requires few_blocks { length plan.now.parents < 2 ^ 31 }
-    requires well_formed { All (λ e. IsWellFormed e.call) history.now }
-    ensures new { OnOk result (out.new.items
-        ≡ out.old.items ++ report.process_sections plan.now history.now) }
-{
-    let alloc = *out.allocator();
-    let count = plan.parents().len();
-    let births = births_of(alloc, history, count + 1)?;
-    let lines = lines_by_process(alloc, plan.lines(), count + 1)?;
-    let entries = entries_by_process(alloc, history, count + 1)?;
-    let mut process = 1;
-    while process as usize <= count {
-        let i = process as usize;
-        let born = is_born_by(plan.parents(), process, births[i]);
-        push_section(out, process, born, lines[i].members(), entries[i].members())?;
-        process += 1;
-    }
-    Ok(())
+    let runs = entries_of_process(alloc, history, process)?;
+    push_section(out, process, born, &lines, history, &runs)
 }

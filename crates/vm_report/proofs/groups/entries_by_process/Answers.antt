@@ -1,13 +1,37 @@
-use Rattle.std.proofs.Common.{◌∙◌, arith}
+use Rattle.std.proofs.Common.{◌∙◌, ◌++◌, List, map, length, ap, sym, arith}
+use Rattle.std.proofs.lemmas.List.{length-map, length-replicate}
 use Rattle.vm_script.specs.vm_types.declared.call.Entry.{Entry}
-use Rattle.vm_report.proofs.Grouped.{member_length, member_on}
+use Rattle.vm_script.specs.flat_model.Told.{entries_of}
+use Rattle.vm_report.specs.Groups.{with_member}
+use Rattle.vm_report.specs.Runs.{no_runs, runs_seen}
+use Rattle.vm_report.specs.declared.runs.Run.{Run}
+use Rattle.vm_report.proofs.Grouped.{member_length, member_on, none_within, none_yet}
 use Rattle.vm_report.proofs.groups.entries_by_process.Goals as goal
 
-pub loop-entry-preserved : goal.loop-entry-preserved
-loop-entry-preserved c = record {
-  count = member_length _ _ _ _ c.in_ok-add_to.ensures ∙ c.loop-entry.invariant.count;
-  each =
-      λ p lt. member_on (λ (e : Entry). e.process) c.loop-entry.groups.items _ c.args.history.now _ c.loop-entry.entry-index
-      c.entry-item.result p c.loop-entry-test.true c.entry-item.is c.in_ok-add_to.ensures
-      (omega (arith, c.loop-entry.invariant.count)) (c.loop-entry.invariant.each p lt);
-}
+pub loop-index-init : goal.loop-index-init
+loop-index-init c =
+    let H = c.args.history.now in
+    let none = c.in_ok-groups.ensures in
+    record {
+      count = ap (λ (gs : List (List Run)). length gs) none ∙ length-replicate c.args.count no_runs;
+      each = λ p lt. ap (λ (es : List Entry). es ++ entries_of H p) (none_yet H c.args.count p c.in_ok-groups.groups.items none lt);
+      within = none_within (length H) c.args.count c.in_ok-groups.groups.items none;
+    }
+
+pub loop-index-preserved : goal.loop-index-preserved
+loop-index-preserved c =
+    let H = c.args.history.now in
+    let e = c.index-history-index.result in
+    let old = c.loop-index.groups.items in
+    let seen =
+    c.in_ok-add_entry.ensures.seen H e c.loop-index-test.true c.index-history-index.is
+    ∙ ap (λ (x : Entry). with_member (map (runs_seen H) old) x.process e) (sym c.index-history-index.is) in
+    let kept = member_length (map (runs_seen H) old) _ e.process e seen in
+    let before = length-map old (runs_seen H) in
+    let after = length-map c.add_entry.new.groups.items (runs_seen H) in
+    record {
+      count = omega (arith, kept, before, after, c.loop-index.invariant.count);
+      each = λ p lt. member_on (λ (x : Entry). x.process) (map (runs_seen H) old) _ H _ c.loop-index.index e p c.loop-index-test.true c.index-history-index.is seen
+          (omega (arith, before, c.loop-index.invariant.count, lt)) (c.loop-index.invariant.each p lt);
+      within = c.in_ok-add_entry.ensures.within (length H) c.loop-index-test.true c.loop-index.invariant.within;
+    }

@@ -1,10 +1,10 @@
-use Rattle.std.proofs.Common.{◌≡◌, ◌≤◌, ◌+◌, ◌*◌, length, map}
+use Rattle.std.proofs.Common.{◌≡◌, ◌≤◌, ◌+◌, ◌*◌, length}
 use Rattle.vm_report.specs.Results.{bytes_read}
 use Rattle.vm_report.proofs.line_results.count_read.Given as goal
 
 abbrev pub invariant-loop-left : goal.invariant-loop-left
 invariant-loop-left l = record {
-  so_far : l.count + length (bytes_read (map (λ e. e.now) l.left)) ≡ length (bytes_read (map (λ e. e.now) l.entries));
+  so_far : l.count + length (bytes_read l.left) ≡ length (bytes_read l.entries);
   few : l.count + 64 * length l.left ≤ 64 * length l.entries;
 }
 

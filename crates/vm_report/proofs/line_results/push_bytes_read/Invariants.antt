@@ -1,10 +1,10 @@
-use Rattle.std.proofs.Common.{◌≡◌, ◌++◌, length, map}
+use Rattle.std.proofs.Common.{◌≡◌, ◌++◌, length}
 use Rattle.vm_script.specs.Texts.{hex_text}
 use Rattle.vm_report.specs.Results.{bytes_read}
 use Rattle.vm_report.proofs.line_results.push_bytes_read.Given as goal
 
 abbrev pub invariant-loop-left : goal.invariant-loop-left
-invariant-loop-left l = l.out.items ++ hex_text (bytes_read (map (λ e. e.now) l.left)) ≡ l.initial.out.items ++ hex_text (bytes_read (map (λ e. e.now) l.entries))
+invariant-loop-left l = l.out.items ++ hex_text (bytes_read l.left) ≡ l.initial.out.items ++ hex_text (bytes_read l.entries)
 
 abbrev pub decreases-loop-left : goal.decreases-loop-left
 decreases-loop-left l = length l.left
