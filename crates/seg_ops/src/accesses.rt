@@ -1,6 +1,7 @@
 //! Words through translations: the hot path. An access is one look for the translation, in which it is noted, and one word.
-ghost use Rattle.std.specs.Prelude.{◌≡◌, ◌≤◌, ℕ, ◌+◌, ◌%◌, true, false, IfSome, IfNone};
+ghost use Rattle.std.specs.Prelude.{◌≡◌, ◌≤◌, ℕ, ◌+◌, ◌%◌, true, false, length, IfSome, IfNone};
 ghost use Rattle.page_store.specs.page_hash.declared.PageName.{PageName};
+ghost use Rattle.vm_world.specs.flat_model.Words as words;
 ghost use Rattle.vm_world.specs.flat_model.Words.{page, word_bytes};
 ghost use Rattle.vm_world.specs.hat_layer.Pool.{IsNoted, frame_for, after_access, change_at, change_page, translation_at};
 ghost use Rattle.page_store.specs.Laws.{Pokes, SameResidence};
@@ -18,6 +19,7 @@ use vm_world::{World, word_at};
 
 /// Notes an access to a page, and answers the frame that it goes to: where the page has a translation that lets it. None
 /// exactly otherwise. Constant expected time: one look for the translation.
+#[inline(always)]
 pub fn frame_for<D: Disk>(world: &mut World<D>, space: u32, page: u32, write: bool) -> Option<u32>
     ensures frame { result ≡ frame_for world.old.hat.places space page write }
     // The translation stays, and says that it was used, and written by a store; ..
@@ -40,6 +42,7 @@ pub fn frame_for<D: Disk>(world: &mut World<D>, space: u32, page: u32, write: bo
 }
 
 /// The word at an address of a load that was noted, in the frame that the load goes to. Constant expected time.
+#[inline(always)]
 pub fn read<D: Disk>(world: &World<D>, frame: u32, addr: u32, size: u32) -> u32
     requires size { IsWordSize size }
     requires aligned { addr % size ≡ 0 }
@@ -49,7 +52,24 @@ pub fn read<D: Disk>(world: &World<D>, frame: u32, addr: u32, size: u32) -> u32
         → IsNoted world.now.hat.places space (page addr) frame false
         → ReadsWord (world_seen world.now) spaces space addr size result }
 {
-    word_at(world.store.frame_bytes(frame), addr, size)
+    word_in(world.store.frame_bytes(frame), addr, size)
+}
+
+// The word at an address, in the page that the address lies in. It is in an arm for each size, so that its bytes are read at once.
+#[inline(always)]
+fn word_in(page: &[u8], addr: u32, size: u32) -> u32
+    requires size { IsWordSize size }
+    requires aligned { addr % size ≡ 0 }
+    requires whole { length page.now ≡ 4096 }
+    ensures { result ≡ words.word_at page.now addr size }
+{
+    if size > 2 {
+        word_at(page, addr, 4)
+    } else if size > 1 {
+        word_at(page, addr, 2)
+    } else {
+        word_at(page, addr, 1)
+    }
 }
 
 /// Puts a word at an address of a store that was noted, into the frame that the store goes to: so the page is modified

@@ -18,5 +18,5 @@ pub returns : goal.returns
 returns g c = λ spaces space fits noted.
     let w = world_seen c.args.world.now in
     let h = noted-hits w spaces space (page c.args.addr) c.args.frame false fits noted in
-    read-word w spaces space c.args.addr c.args.size c.word_at.result noted.entry h c.frame_bytes.result.now
-    (λ notes. c.frame_bytes.ensures.value h.name (noted-home w spaces space (page c.args.addr) c.args.frame false fits noted) notes (world_table w)) c.word_at.ensures
+    read-word w spaces space c.args.addr c.args.size c.word_in.result noted.entry h c.frame_bytes.result.now
+    (λ notes. c.frame_bytes.ensures.value h.name (noted-home w spaces space (page c.args.addr) c.args.frame false fits noted) notes (world_table w)) c.word_in.ensures
