@@ -1,22 +1,19 @@
 -- FLAT MEMORY WHERE THE VALUE OF ONE PAGE CHANGED: a file's page, a zero object's, or a private cell's own.
-use Rattle.std.proofs.Common.{◌≡◌, ◌≢◌, ℕ, zero, suc, ◌+◌, ◌<◌, ◌==◌, Bool, true, false, cond, List, [], ◌∷◌, length, Option, Some, None, refl, sym, ap, ◌∙◌, inl, inr, arith, slice_set}
-use Rattle.std.specs.Prelude.{IsTrue, ◌||◌, is_some, option_map, option_and_then, unwrap_or}
+use Rattle.std.proofs.Common.{◌≡◌, ◌≢◌, ℕ, zero, suc, ◌+◌, ◌<◌, ◌==◌, Bool, cond, List, [], ◌∷◌, Option, Some, None, refl, sym, ap, ◌∙◌, inl, inr, arith, slice_set}
+use Rattle.std.specs.Prelude.{option_map, option_and_then, unwrap_or}
 use Rattle.std.specs.Option.{option_or}
 use Rattle.std.specs.FinMap as finite
 use Rattle.std.specs.FinSet as set
 use Rattle.std.specs.Ordering.{nat_cmp}
-use Rattle.std.proofs.lemmas.Bool.{cases_eq, ltb-true}
 use Rattle.std.proofs.lemmas.Bool.Decides.{eqb_tells}
 use Rattle.seg_vn.specs.vm_types.declared.call.Kind.{Kind}
 use Rattle.seg_vn.specs.vm_types.declared.call.Kind.TheVariants.{Shared, Private}
 use Rattle.seg_vn.specs.vm_types.declared.call.Object.{Object}
 use Rattle.seg_vn.specs.vm_types.declared.call.Object.TheVariants as object
 use Rattle.seg_vn.specs.vnode_files.declared.vnode.FileInfo.{FileInfo}
-use Rattle.seg_vn.specs.vnode_files.Files.{vnode_at}
-use Rattle.seg_vn.specs.addr_space.Space.{Part}
 use Rattle.seg_vn.specs.page_hash.declared.PageName.{PageName}
 use Rattle.seg_vn.specs.page_store.Notes.{Notes}
-use Rattle.seg_vn.specs.anon_map.Maps.{Map, places_of}
+use Rattle.seg_vn.specs.anon_map.Maps.{Map}
 use Rattle.seg_vn.specs.anon_slots.Slots.{AnonSlotsSeen, count_at}
 use Rattle.seg_vn.specs.flat_model.Words.{Page, pages_in, zero_page}
 use Rattle.seg_vn.specs.flat_model.Flat.{Cell, Flat}
@@ -27,18 +24,16 @@ use Rattle.seg_vn.specs.vm_world.MemoryFits.{MemoryFits}
 use Rattle.seg_vn.specs.vm_world.Pages.{Contents, contents_of, contents_by, file_contents, page_value, place_contents}
 use Rattle.seg_vn.specs.vm_world.Segments.{Spot, Spaces, spot_at, own_slot, object_name, shown_name}
 use Rattle.seg_vn.specs.vm_world.TranslationsFit.{MayWriteInPlace}
-use Rattle.seg_vn.specs.vm_world.Wants.{object_has, shows_page}
 use Rattle.seg_vn.specs.vm_world.World.{World, file_name, slot_name, slot_in}
 use Rattle.seg_vn.proofs.vm_world.Counts.{only-place}
 use Rattle.seg_vn.proofs.vm_world.FlatWhole.{some-inj}
 use Rattle.seg_vn.proofs.vm_world.Maps.{get-map_with, map_with-same, map_with-but_one}
 use Rattle.seg_vn.proofs.vm_world.PageNames.{not-slot, file-apart}
-use Rattle.seg_vn.specs.seg_ops.Slots.{OwnsAlone}
 use Rattle.seg_vn.proofs.seg_ops.SlotCells.{PutsHeld, cell-else, cells-else, flat-owned, pages-same, spot-in}
 use Rattle.seg_vn.proofs.seg_ops.SlotOwners.{places_law}
 use Rattle.seg_vn.proofs.seg_ops.StillSteps.{memory_of}
 use Rattle.seg_vn.proofs.FaultPlaces.{file-at, new-private, private-has, shared-own, zero-at, zero-map-at}
-use Rattle.seg_vn.proofs.PlacesShown.{bare-name, holds-within, zero-slot}
+use Rattle.seg_vn.proofs.PlacesShown.{bare-name, zero-slot}
 
 -- A PAGE OF A FILE IS PUT.
 record PutsPage (old new : Contents) (f i : ℕ) (bytes : Page) : Type 0 where

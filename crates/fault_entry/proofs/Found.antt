@@ -1,7 +1,7 @@
 -- The segment that a space has at a page.
 use Rattle.seg_vn.proofs.flat_model.Histories.{io_aside as both-left}
-use Rattle.std.proofs.Common.{◌≡◌, ℕ, ◌+◌, ◌-◌, ◌≤◌, Bool, true, false, cond, List, [], ◌∷◌, Some, None, refl, sym, ap, ◌∙◌, inl, inr, subst}
-use Rattle.std.specs.Prelude.{option_map, option_and_then, nat_lt, nat_le, ◌&&◌}
+use Rattle.std.proofs.Common.{◌≡◌, ℕ, ◌+◌, ◌-◌, ◌≤◌, Bool, cond, List, [], ◌∷◌, Some, None, sym, ap, ◌∙◌, inl, inr, subst}
+use Rattle.std.specs.Prelude.{option_map, option_and_then, nat_lt, nat_le}
 use Rattle.std.specs.FinMap as finite
 use Rattle.std.proofs.lemmas.Bool.{cases_Bool, leb-true}
 use Rattle.seg_vn.specs.addr_space.Space.{Part, part, part_at, has}

@@ -1,5 +1,5 @@
 //! What an access reaches.
-ghost use Rattle.std.specs.Prelude.{◌≡◌, ◌≤◌, ◌-◌, ◌%◌, ℕ, true, Some};
+ghost use Rattle.std.specs.Prelude.{◌≡◌, ◌≤◌, ◌-◌, ◌%◌, ◌↔◌, ℕ, true, Some, IfSome, IfNone, IsTrue};
 ghost use Rattle.std.specs.FinMap as finite;
 ghost use Rattle.seg_vn.specs.hat_layer.Pool.{IsNoted, after_access, change_page, translation_at};
 ghost use Rattle.seg_vn.specs.flat_model.Words as words;
@@ -12,6 +12,7 @@ ghost use Rattle.seg_vn.specs.vm_world.World.{world_seen};
 ghost use Rattle.seg_vn.specs.seg_ops.Faults.{IsFitAt, LetsAccess};
 ghost use Rattle.fault_entry.specs.Reaching.{AccessServed, ServesAccess, may_access, step_wanting};
 ghost use Rattle.fault_entry.specs.Accesses.{IsFitFor};
+ghost use Rattle.fault_entry.specs.declared.access.AccessStep.TheVariants.{Reached};
 
 use seg_vn::{
     Disk, Fault, Hold, Plan, Prot, Ranges, Residence, Signal, VnSeg, Wants, World, frame_for,
@@ -142,4 +143,55 @@ pub(crate) fn reach<D: Disk>(
         return AccessStep::Reached(frame);
     }
     fault_in(world, segment, process, first, addr, write)
+}
+
+/// Whether an address is a multiple of a word's size. The sizes are told apart, so that nothing is divided by one that isn't known.
+#[inline(always)]
+fn is_aligned(addr: u32, size: u32) -> bool
+    requires { IsWordSize size }
+    ensures { IsTrue result ↔ (addr % size ≡ 0) }
+{
+    if size > 2 {
+        addr % 4 == 0
+    } else if size > 1 {
+        addr % 2 == 0
+    } else {
+        true
+    }
+}
+
+/// The frame that an access goes to whose page has a translation that lets it: a hit, which is noted. None where it is no hit, or where a
+/// signal is due, and then nothing changes.
+#[inline(always)]
+pub(crate) fn reach_hit<D: Disk>(
+    world: &mut World<D>,
+    space: &Ranges<VnSeg>,
+    process: u32,
+    addr: u32,
+    size: u32,
+    write: bool,
+) -> Option<u32>
+    requires size { IsWordSize size }
+    requires fits { IsFitFor world.old process space.now.parts }
+    ensures serves { IfSome result (λ frame. AccessServed world.old world.new process
+        space.now.parts addr size write (Reached frame)) }
+    ensures none { IfNone result (world.new ≡ world.old) }
+    // What stays.
+    ensures rest { SameFiles world.old world.new }
+{
+    if !is_aligned(addr, size) {
+        return None;
+    }
+    let page = addr / 4096;
+    let Some((_first, _pages, segment)) = space.find(page) else {
+        return None;
+    };
+    let allowed = may_access(segment.prot(), write);
+    if !allowed {
+        return None;
+    }
+    match frame_for(world, process, page, write) {
+        Some(frame) => Some(frame),
+        None => None,
+    }
 }

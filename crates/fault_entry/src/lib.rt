@@ -6,7 +6,7 @@ mod answers;
 mod entry;
 
 pub use answers::Answer;
-pub use entry::answer;
+pub use entry::{answer, answer_hit};
 pub use seg_vn::{
     AnonMaps, AnonSlots, Attempt, Call, Disk, DiskFault, Entry, Files, Flight, Hat, Hold, PageName,
     Pick, Plan, Ranges, Reply, Residence, Spaces, Store, VnSeg, Wants, World, ZeroObjects, ask,
