@@ -135,4 +135,19 @@ impl PageHash {
             .unlink(frame, slot_of_pair(name.object, name.page, self.slots));
         Some(frame)
     }
+
+    /// Takes from a frame the name that it holds, if it holds one. The frame needs no look for its name.
+    pub fn forget(&mut self, frame: u32)
+        requires { frame < length self.old }
+        ensures new { self.new ≡ slice_set self.old frame None }
+        ensures one_to_one { AreDistinct self.new }
+    {
+        let Some(name) = self.name_of(frame) else {
+            return;
+        };
+        let at = frame as usize;
+        self.names[at] = None;
+        self.chains
+            .unlink(frame, slot_of_pair(name.object, name.page, self.slots));
+    }
 }
