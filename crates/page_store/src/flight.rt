@@ -27,12 +27,12 @@ pub struct Flight<D: Disk> {
     pub(crate) seat: u32,
     pub(crate) number: u32,
     pub(crate) disk: D,
-    pub(crate) writes: bool,
     pub(crate) name: PageName,
     pub(crate) block: u32,
     pub(crate) valid: u32,
     pub(crate) frame: Frame,
     pub(crate) before: u64,
+    pub(crate) writes: bool,
     pub(crate) stage: Stage,
 }
 

@@ -27,17 +27,6 @@ pub(crate) fn take_frame(lists: &mut PageLists) -> u32
     }
 }
 
-/// Takes from a frame the name that it holds, if it holds one.
-pub(crate) fn forget(names: &mut PageHash, frame: u32)
-    requires { frame < length names.old }
-    ensures new { names.new ≡ slice_set names.old frame None }
-    ensures distinct { AreDistinct names.new }
-{
-    if let Some(name) = names.name_of(frame) {
-        names.remove(name);
-    }
-}
-
 /// Gives a frame a name that no frame holds, in place of the name that it holds.
 pub(crate) fn rename(names: &mut PageHash, frame: u32, name: PageName)
     requires within { frame < length names.old }
@@ -45,7 +34,7 @@ pub(crate) fn rename(names: &mut PageHash, frame: u32, name: PageName)
     ensures new { names.new ≡ slice_set names.old frame (Some name) }
     ensures distinct { AreDistinct names.new }
 {
-    forget(names, frame);
+    names.forget(frame);
     names.enter(name, frame);
 }
 

@@ -9,7 +9,7 @@ ghost use Rattle.page_store.specs.Steps.{after_end, is_lost, is_dirty, landed_ro
 ghost use Rattle.page_store.specs.Transfers.{EndsTransfer};
 
 use crate::flight::{Flight, Stage};
-use crate::frames::{forget, part};
+use crate::frames::part;
 use crate::store::Store;
 use block_device::Disk;
 use page_hash::PageHash;
@@ -21,6 +21,7 @@ impl<D: Disk> Store<D> {
     /// and that failed; it is modified where a write failed, and where it was written since its snapshot went out. A frame
     /// without a page is free: where the page is gone, wasn't read, or has its own frame. Constant expected time; takes no
     /// memory and makes no disk call.
+    #[inline(always)]
     pub fn end(&mut self, flight: Flight<D>)
         requires out { IsFlightOf self.old flight }
         requires performed { flight.outcome ≢ fresh }
@@ -128,7 +129,7 @@ fn land(
     } }
 {
     if lost {
-        forget(names, frame);
+        names.forget(frame);
         locks.clear(frame);
         lists.free(frame);
     } else {

@@ -15,7 +15,7 @@ ghost use Rattle.page_store.specs.Transfers.{CanBegin, BeginsTransfer, after_beg
 ghost use Rattle.page_store.specs.Waits.{Waits, plan_page};
 
 use crate::flight::{Flight, Stage};
-use crate::frames::{forget, forsake, pair, rename, reserve, take_copy, take_frame};
+use crate::frames::{forsake, pair, rename, reserve, take_copy, take_frame};
 use crate::plan::Plan;
 use crate::store::Store;
 use block_device::Disk;
@@ -53,6 +53,7 @@ impl<D: Disk> Store<D> {
         }
     }
 
+    #[inline(always)]
     fn begin_push(
         &mut self,
         seat: u32,
@@ -104,6 +105,7 @@ impl<D: Disk> Store<D> {
         }
     }
 
+    #[inline(always)]
     fn begin_read(
         &mut self,
         seat: u32,
@@ -184,7 +186,7 @@ fn take_out(
         }
         Some(_) => {
             let at = take_frame(lists);
-            forget(names, at);
+            names.forget(at);
             pair(locks, own, at, seat);
             take_copy(core, own, at)
         }
