@@ -18,6 +18,7 @@ use vm_world::World;
 /// Ends a transfer that was performed: its frame and its disk come back. A page that isn't gone is home then, but for one
 /// that was to be read and that failed; it is modified where a write failed, and where it was written since its snapshot
 /// went out. Time: constant expected; one page is moved, none is copied.
+#[inline(always)]
 pub fn end_flight<D: Disk>(world: &mut World<D>, flight: Flight<D>)
     requires out { IsFlightOf world.old.store flight }
     requires performed { flight.outcome ≢ fresh }

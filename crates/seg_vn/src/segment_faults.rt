@@ -141,7 +141,7 @@ impl VnSeg {
     /// Loads the translation of a page of any mapping, or says what that needs: a page that is shown is brought home, one
     /// of zeros is made, and a store to a private page gives that a page of its own. `first` is the segment's first page
     /// in the space. Takes no memory and makes no disk call. Time: what `make_room` takes, and one page.
-    #[inline(never)]
+    #[inline(always)]
     pub fn fault<D: Disk>(
         &self,
         world: &mut World<D>,
