@@ -23,6 +23,7 @@ use crate::state::VmState;
 use fault_entry::{Disk, Flight, Plan, World, begin_push, begin_read};
 
 /// Begins the transfer of a plan that can run.
+#[inline(always)]
 fn leave<D: Disk>(world: &mut World<D>, seat: u32, plan: Plan) -> Flight<D>
     requires can { CanLeave (world_seen world.old) plan }
     requires ready { Waits world.old.store (plan_page plan)
@@ -87,6 +88,7 @@ impl<D: Disk> VmState<D> {
     }
 
     // The transfer of the kept plan leaves; no mark changes.
+    #[inline(always)]
     fn depart(&mut self, seat: u32, plan: Plan) -> Flight<D>
         requires fits { FitsAt self.old seat None }
         requires kept { (kept : KeptPlan) × IsKeptFor self.old seat plan kept }
@@ -104,8 +106,7 @@ impl<D: Disk> VmState<D> {
         ensures tables { KeepsButPushed self.old.memory.world self.new.memory.world plan }
         ensures rest { self.new ≡ after_step self.old self.new.memory.world self.new.pending }
     {
-        let flight = leave(&mut self.world, seat, plan);
         self.plan = None;
-        flight
+        leave(&mut self.world, seat, plan)
     }
 }

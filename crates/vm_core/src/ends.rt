@@ -77,6 +77,7 @@ impl<D: Disk> VmState<D> {
     }
 
     // The flight's frame and disk come back, and no plan is kept.
+    #[inline(always)]
     fn land(&mut self, flight: Flight<D>)
         requires out { IsFlightOf self.old.memory.world.store flight }
         requires performed { flight.outcome ≢ fresh }

@@ -108,6 +108,7 @@ impl<D: Disk> VmState<D> {
     }
 
     // What is known of its block changes as the push of a file's page ends.
+    #[inline(always)]
     pub(crate) fn mark_end(&mut self, seat: u32, flight: &Flight<D>)
         requires { flight.now.outcome ≢ fresh }
         ensures { self.new ≡ record self.old {
