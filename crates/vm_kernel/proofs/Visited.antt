@@ -1,6 +1,6 @@
 -- What a visit leaves of a seat.
 use Rattle.std.proofs.Common.{◌≡◌, ℕ, suc, ◌<◌, ◌≤◌, ◌+◌, ◌^◌, true, false, List, [], ◌∷◌, ◌++◌, Option, Some, None, Result, Ok, Err, refl, ap, sym, ◌∙◌, subst, arith, if◌then◌else◌, eqb, eq-eqb, le_refl, ◌⊎◌}
-use Rattle.std.specs.Prelude.{All, IsFalse, is_some}
+use Rattle.std.specs.Prelude.{All, IfSome, IsFalse, IsTrue, is_some}
 use Rattle.std.proofs.lemmas.List.{append-nil}
 use Rattle.std.proofs.lemmas.List.Elements.{filter-append, All-nil, All-cons}
 use mathlib.Core.List.{IsPrefix}
@@ -18,9 +18,9 @@ use Rattle.vm_core.specs.vm_types.declared.call.Reply.TheVariants as reply
 use Rattle.vm_core.specs.vm_world.ServingLaws.{done_entry}
 use Rattle.vm_core.specs.vm_world.State.{KernelState, Sent, seat_of}
 use Rattle.vm_kernel.specs.Callers.{SeatSeen, CallerSeen, IsIdle}
-use Rattle.vm_kernel.specs.Notes.{InHand}
+use Rattle.vm_kernel.specs.Notes.{InHand, IsSentFor}
 use Rattle.vm_kernel.specs.Since.{seat_of_entry, history_of, IsSinceOpening}
-use Rattle.vm_kernel.specs.Steps.{IsNoteFor, tried_of}
+use Rattle.vm_kernel.specs.Steps.{IsNoteFor, IsForNone, tried_of}
 use Rattle.vm_kernel.specs.Turns.{CallerGoesOn, MovesHands, IsQuick, IsTurn, IsFirstHalf, IsCallDone, LacksMemory, HasMet, HasCauseFor, ShowsError, IsForCall, caller_at, quick_of, turn_of_try, turn_of_end, why_of}
 use Rattle.vm_kernel.specs.Visits.{GoesOut, LeavesTry, LeavesEnd, LeavesHand, Visit}
 use Rattle.vm_kernel.specs.declared.sent.SentFlight.{SentFlight}
@@ -197,6 +197,10 @@ pub record Ends (c : SeatSeen) (p : ℕ) (call : Call) (d : SeatSeen) (result : 
   pub visit : Visit c state None added d
   pub turn : IsTurn (caller_at c p) call (caller_at d p) (turn_of_end result)
 
+pub error-told : (b d : SeatSeen) (s : KernelState) (note : Sent) (result : Option Reply) → LeavesEnd b s note d result → IfSome result (λ (r : Reply). IsTrue (is_io r))
+error-told b d s note None left = tt
+error-told b d s note (Some r) (t, out, (of, is, adds, disk, before, after, io, error)) = subst (λ (x : Reply). IsTrue (is_io x)) (sym io) refl
+
 some-emptied : (o : Option Sent) (note : Sent) (k : ℕ) → o ≡ Some note → k < (if empties o None then k + 1 else k)
 some-emptied None note k is = absurd (cc (is))
 some-emptied (Some x) note k is = omega arith
@@ -330,6 +334,20 @@ pub hand-for : {D : Type 0} (sent : Option (SentFlight D)) (o : Option Sent) (p 
 hand-for None o p call is hand for' = absurd (let z : false ≡ true = is in cc (z))
 hand-for (Some x) None p call is hand for' = absurd hand
 hand-for (Some x) (Some n) p call is hand for' = for'
+
+pub sent-for : {D : Type 0} (x : SentFlight D) (sent : Option (SentFlight D)) (o : Option Sent) (p : ℕ) (call : Call) → sent ≡ Some x → InHand sent o → IsNoteFor p call o → IsSentFor x (Some (p, call))
+sent-for x None o p call is hand for' = absurd (cc (is))
+sent-for x (Some y) None p call is hand for' = absurd hand
+sent-for x (Some y) (Some n) p call is hand for' = let same = sym for' ∙ hand.same in cc (same, is)
+
+pub sent-for-none : {D : Type 0} (x : SentFlight D) (sent : Option (SentFlight D)) (o : Option Sent) → sent ≡ Some x → InHand sent o → IsForNone o → IsSentFor x None
+sent-for-none x None o is hand for' = absurd (cc (is))
+sent-for-none x (Some y) None is hand for' = absurd hand
+sent-for-none x (Some y) (Some n) is hand for' = let same = sym for' ∙ hand.same in cc (same, is)
+
+pub noted-for : (p : ℕ) (call : Call) (o : Option Sent) → (o ≡ None → ⊥) → IsForCall p call o → IsNoteFor p call o
+noted-for p call None some for' = absurd (some refl)
+noted-for p call (Some note) some for' = for'
 
 pub half-out : {E : Type 0} (c : CallerSeen) (call : Call) (d : CallerSeen) (r : Option Turn) (whole : Result (Option Turn) E) → whole ≡ Ok r → r ≡ None → IsFirstHalf c call d whole → (d.seat.own ≡ c.seat.own) × IsNoteFor c.process call d.seat.note
 half-out c call d r (Ok None) is none half = half

@@ -20,6 +20,8 @@ use Rattle.vm_kernel.specs.Callers.{KernelSeen, SeatSeen, CallerSeen, ShowsOwn}
 use Rattle.vm_core.specs.fault_entry.declared.answers.Answer.{Answer}
 use Rattle.vm_core.specs.fault_entry.declared.answers.Answer.TheVariants as answer
 use Rattle.vm_kernel.specs.Steps.{IsNoteFor}
+use Rattle.vm_kernel.specs.declared.turn.Ended.{Ended}
+use Rattle.vm_kernel.specs.declared.turn.Ended.TheVariants as ended
 use Rattle.vm_kernel.specs.declared.turn.Quick.{Quick}
 use Rattle.vm_kernel.specs.declared.turn.Quick.TheVariants as quick
 use Rattle.vm_kernel.specs.declared.steps.Tried.{Tried}
@@ -155,6 +157,16 @@ turn_of_try (Err e) = Err e
 abbrev pub turn_of_end : Option Reply → Turn
 turn_of_end (Some r) = Done r
 turn_of_end None = Again Moved
+
+abbrev pub turn_of_ended : Ended → Turn
+turn_of_ended (ended.Failed disk before after) = Done (reply.Io disk before after)
+turn_of_ended ended.Moved = Again Moved
+turn_of_ended ended.Held = Again LockHeld
+
+-- Inside: what a call has come to: it is done, with this reply, or there is no entry yet.
+abbrev pub IsAnswered : CallerSeen → Call → CallerSeen → Option Reply → Type 0
+IsAnswered c call d (Some r) = IsCallDone c call d r
+IsAnswered c call d None = (d.seat.own ≡ c.seat.own) × IsForCall c.process call d.seat.note
 
 -- Inside: what one try of a load or a store comes to: it is done, or there is no entry yet.
 abbrev pub quick_of : Answer → Quick

@@ -1,10 +1,10 @@
 //! The state that stands behind the lock, in a box, since the lock moves what it keeps several times a visit.
-ghost use Rattle.std.specs.Prelude.{◌≡◌, ◌<◌, ℕ, Some, None, length};
+ghost use Rattle.std.specs.Prelude.{◌≡◌, ◌<◌, ℕ, Some, None, length, option_map};
 ghost use Rattle.vm_core.specs.Fits.{FitsAt};
 ghost use Rattle.vm_core.specs.vm_types.WellFormed.{IsWellFormed};
 ghost use Rattle.vm_core.specs.vm_world.Events.{IsEvent, CanTry};
 ghost use Rattle.vm_core.specs.vm_world.State.{Sent};
-ghost use Rattle.vm_kernel.specs.Notes.{note_of_held, AreUnperformed, InHand};
+ghost use Rattle.vm_kernel.specs.Notes.{note_of_held, AreUnperformed, InHand, IsSentFor};
 ghost use Rattle.vm_core.specs.fault_entry.Accesses.{IsAccess};
 ghost use Rattle.vm_kernel.specs.Steps.{TriesAccess, TriesCall, EndsFlight, IsForNone};
 
@@ -106,15 +106,22 @@ impl<D: Disk> BoxedState<D> {
         steps::access_and_begin(&mut self.state, seat, process, call, sent)
     }
 
-    /// The flight of a seat ends.
-    pub(crate) fn end_flight(&mut self, seat: u32, sent: SentFlight<D>) -> Option<Reply>
+    /// The flight of a seat, which is for this process and call, ends.
+    #[inline(always)]
+    pub(crate) fn end_flight(
+        &mut self,
+        seat: u32,
+        sent: SentFlight<D>,
+        call: Option<(u32, &Call)>,
+    ) -> Option<Reply>
         requires back { (note : Sent) × FitsAt self.old seat (Some note)
             × InHand (Some sent) (Some note) }
+        requires of { IsSentFor sent (option_map (λ (c : ℕ × _). (c.0, c.1.now)) call) }
         ensures ends { (note : Sent) → InHand (Some sent) (Some note)
             → IsEvent seat self.old (Some note) self.new None
             × EndsFlight self.old self.new note result }
     {
-        steps::end_flight(&mut self.state, seat, sent)
+        steps::end_flight(&mut self.state, seat, sent, call)
     }
 
     /// One move of a hand of the clock, and the begin of the push that it answers, which is in hand then.

@@ -1,8 +1,7 @@
 //! The two halves of a turn: a try, with the transfer that it needs, and the end of that transfer.
-ghost use Rattle.std.specs.Prelude.{◌≡◌, ◌≤◌, ◌+◌, ℕ, Some, None, length, IfOk, OnErr};
+ghost use Rattle.std.specs.Prelude.{◌≡◌, ◌≢◌, ◌≤◌, ◌+◌, ℕ, Some, None, length, IfOk, OnErr};
 ghost use Rattle.kernel_lock.specs.Seats.{IsSeatOf};
 ghost use Rattle.vm_core.specs.fault_entry.Accesses.{IsAccess};
-ghost use Rattle.vm_core.specs.vm_types.declared.call.Call as calls;
 ghost use Rattle.vm_kernel.specs.Callers.{IsIdle};
 ghost use Rattle.vm_kernel.specs.Steps.{IsNoteFor, IsForNone};
 ghost use Rattle.vm_kernel.specs.Turns.{
@@ -14,12 +13,13 @@ ghost use Rattle.vm_kernel.specs.Turns.{
   IsFirstHalf,
   LacksMemory,
   caller_at,
+  turn_of_ended,
 };
 
 use crate::boxed::BoxedState;
 use crate::sent::SentFlight;
 use crate::steps::perform;
-use crate::turn::{Quick, Turn, Why, quick_of, turn_of_end, turn_of_try};
+use crate::turn::{Ended, Quick, Turn, Why, ended_of, quick_of, turn_of_ended, turn_of_try};
 use crate::visits::{access_and_leave, end_and_leave, hand_and_leave, try_and_leave};
 use kernel_lock::lock::KernelLock;
 use kernel_lock::seat::Seat;
@@ -85,32 +85,57 @@ pub(crate) fn access_at<D: Disk>(
     quick_of(answer)
 }
 
-/// The second half, with a transfer in hand: it ends.
+/// The second half, with a transfer in hand: it ends. Not inline, and all that it calls is, so that the flight isn't moved.
+#[inline(never)]
 fn second_at<D: Disk>(
     lock: &KernelLock<BoxedState<D>>,
     seat: &mut Seat<BoxedState<D>>,
     process: u32,
     sent: &mut Option<SentFlight<D>>,
-) -> Turn
+    call: &Call,
+) -> Ended
     requires seat { IsSeatOf lock.now seat.old }
     requires idle { IsIdle seat.old process sent.old }
-    requires out { (call : calls.Call) × IsNoteFor process call seat.old.note }
+    requires out { IsNoteFor process call.now seat.old.note }
     requires named { process ≡ seat.old.number + 1 }
     // The caller goes on, and what its second half comes to.
     ensures seat { IsSeatOf lock.now seat.new }
     ensures idle { IsIdle seat.new process sent.new }
     ensures goes { CallerGoesOn (caller_at seat.old process) (caller_at seat.new process) }
-    ensures turn { (call : calls.Call) → IsNoteFor process call seat.old.note
-        → IsTurn (caller_at seat.old process) call (caller_at seat.new process) result }
+    ensures turn { IsTurn (caller_at seat.old process) call.now (caller_at seat.new process)
+        (turn_of_ended result) }
 {
     let Some(state) = lock.try_enter(seat) else {
-        return Turn::Again(Why::LockHeld);
+        return Ended::Held;
     };
     let Some(flight) = sent.take() else {
         unreachable!()
     };
-    let reply = end_and_leave(lock, seat, state, flight);
-    turn_of_end(reply)
+    let reply = end_and_leave(lock, seat, state, flight, Some((process, call)));
+    ended_of(reply)
+}
+
+/// One turn with a transfer in hand, without waiting.
+#[inline(always)]
+pub(crate) fn end_at<D: Disk>(
+    lock: &KernelLock<BoxedState<D>>,
+    seat: &mut Seat<BoxedState<D>>,
+    process: u32,
+    sent: &mut Option<SentFlight<D>>,
+    call: &Call,
+) -> Ended
+    requires seat { IsSeatOf lock.now seat.old }
+    requires idle { IsIdle seat.old process sent.old }
+    requires may { MayCall lock.now (caller_at seat.old process) call.now }
+    requires out { seat.old.note ≢ None }
+    // The caller goes on, and what the turn comes to.
+    ensures seat { IsSeatOf lock.now seat.new }
+    ensures idle { IsIdle seat.new process sent.new }
+    ensures goes { CallerGoesOn (caller_at seat.old process) (caller_at seat.new process) }
+    ensures turn { IsTurn (caller_at seat.old process) call.now (caller_at seat.new process)
+        (turn_of_ended result) }
+{
+    second_at(lock, seat, process, sent, call)
 }
 
 /// One turn of a seat, without waiting.
@@ -134,11 +159,11 @@ pub(crate) fn turn_at<D: Disk>(
         (caller_at seat.new process)) }
 {
     if sent.is_some() {
-        return Ok(second_at(lock, seat, process, sent));
+        return Ok(turn_of_ended(second_at(lock, seat, process, sent, call)));
     }
     match first_at(lock, seat, process, sent, call)? {
         Some(turn) => Ok(turn),
-        None => Ok(second_at(lock, seat, process, sent)),
+        None => Ok(turn_of_ended(second_at(lock, seat, process, sent, call))),
     }
 }
 
@@ -193,7 +218,7 @@ fn bring_home<R: Wait, D: Disk>(
         return;
     };
     let state = lock.enter(rt, seat);
-    let _ = end_and_leave(lock, seat, state, flight);
+    let _ = end_and_leave(lock, seat, state, flight, None);
 }
 
 /// One move of a hand of the clock, with its transfer. It waits for the lock.

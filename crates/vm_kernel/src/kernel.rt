@@ -1,13 +1,13 @@
 //! The kernel for threads: one state behind one lock, shared by reference, and callers that are handed to threads by value.
-ghost use Rattle.std.specs.Prelude.{◌≡◌, ◌≤◌, ℕ, None, IfOk, OnErr};
+ghost use Rattle.std.specs.Prelude.{◌≡◌, ◌≢◌, ◌≤◌, ℕ, None, IfOk, OnErr};
 ghost use mathlib.Core.List.{IsPrefix};
 ghost use Rattle.vm_kernel.specs.Callers.{IsCallerOf};
-ghost use Rattle.vm_kernel.specs.Turns.{MayCall, CallerGoesOn, MovesHands, IsQuick, IsTurn, IsCallDone, LacksMemory, HasSeenMore};
+ghost use Rattle.vm_kernel.specs.Turns.{MayCall, CallerGoesOn, MovesHands, IsQuick, IsTurn, IsCallDone, LacksMemory, HasSeenMore, IsAnswered, turn_of_ended};
 
 use crate::boxed::BoxedState;
 use crate::caller::Caller;
-use crate::halves::{access_at, move_at, turn_at};
-use crate::turn::{Quick, Turn, Why};
+use crate::halves::{access_at, end_at, move_at, turn_at};
+use crate::turn::{Ended, Quick, Turn, Why};
 use kernel_lock::lock::KernelLock;
 use std::alloc::AllocError;
 use std::marker::Model;
@@ -59,7 +59,9 @@ impl<D: Disk> VmKernel<D> {
     }
 
     /// One turn at a call, and where another caller holds it up, a rest until that one left the lock, or until somebody's transfer or
-    /// call ended. It waits, and takes memory for no more calls than a turn.
+    /// call ended. It waits, and takes memory for no more calls than a turn. Not inline, so that a call that goes on has no room for its
+    /// values.
+    #[inline(never)]
     pub fn turn_and_rest<R: Wait>(
         &self,
         rt: &R,
@@ -144,6 +146,94 @@ impl<D: Disk> VmKernel<D> {
         Quick::Later
     }
 
+    // A turn with a transfer in hand, which ends, and where the lock is held a rest until somebody left it.
+    #[inline(always)]
+    fn end_and_rest<R: Wait>(&self, rt: &R, caller: &mut Caller<D>, call: &Call) -> Ended
+        requires caller { IsCallerOf self.now caller.old }
+        requires may { MayCall self.now caller.old call.now }
+        requires out { caller.old.seat.note ≢ None }
+        ensures caller { IsCallerOf self.now caller.new }
+        ensures goes { CallerGoesOn caller.old caller.new }
+        ensures turn { IsTurn caller.old call.now caller.new (turn_of_ended result) }
+    {
+        let leaves = self.lock.leaves();
+        let ended = end_at(
+            &self.lock,
+            &mut caller.seat,
+            caller.process,
+            &mut caller.sent,
+            call,
+        );
+        if let Ended::Held = ended {
+            self.lock.rest(rt, leaves);
+        }
+        ended
+    }
+
+    // A turn with nothing in hand, whose reply is left in its place. Not inline, so that the end of a transfer has no room for a turn.
+    #[inline(never)]
+    fn turn_into<R: Wait>(
+        &self,
+        rt: &R,
+        caller: &mut Caller<D>,
+        call: &Call,
+        reply: &mut Option<Reply>,
+    ) -> Result<(), AllocError>
+        requires caller { IsCallerOf self.now caller.old }
+        requires may { MayCall self.now caller.old call.now }
+        requires none { reply.old ≡ None }
+        ensures caller { IsCallerOf self.now caller.new }
+        ensures goes { CallerGoesOn caller.old caller.new }
+        ensures turn { IfOk result (λ done. IsAnswered caller.old call.now caller.new reply.new) }
+        ensures err { OnErr result (LacksMemory caller.old call.now caller.new) }
+    {
+        match self.turn_and_rest(rt, caller, call)? {
+            Turn::Done(done) => {
+                *reply = Some(done);
+                Ok(())
+            }
+            Turn::Again(_) => Ok(()),
+        }
+    }
+
+    // A turn, whose reply is left in its place. What is in hand ends without a value for a whole turn.
+    #[inline(always)]
+    fn go_on<R: Wait>(
+        &self,
+        rt: &R,
+        caller: &mut Caller<D>,
+        call: &Call,
+        reply: &mut Option<Reply>,
+    ) -> Result<(), AllocError>
+        requires caller { IsCallerOf self.now caller.old }
+        requires may { MayCall self.now caller.old call.now }
+        requires none { reply.old ≡ None }
+        ensures caller { IsCallerOf self.now caller.new }
+        ensures goes { CallerGoesOn caller.old caller.new }
+        ensures turn { IfOk result (λ done. IsAnswered caller.old call.now caller.new reply.new) }
+        ensures err { OnErr result (LacksMemory caller.old call.now caller.new) }
+    {
+        if caller.is_free() {
+            return self.turn_into(rt, caller, call, reply);
+        }
+        match self.end_and_rest(rt, caller, call) {
+            Ended::Failed {
+                disk,
+                before,
+                after,
+            } => {
+                *reply = Some(Reply::Io {
+                    disk,
+                    before,
+                    after,
+                });
+                Ok(())
+            }
+            Ended::Moved => Ok(()),
+            Ended::Held => Ok(()),
+        }
+    }
+
     // Turns until there is a reply, and behind each the one try of a load or a store. Not inline, so that a hit's code has no room for
     // its values.
     #[inline(never)]
@@ -162,10 +252,12 @@ impl<D: Disk> VmKernel<D> {
         ensures err { OnErr result (LacksMemory caller.old call.now caller.new) }
     {
         caller.own_law();
+        let mut reply = None;
         for _ in rt.forever() {
-            match self.turn_and_rest(rt, caller, call)? {
-                Turn::Done(reply) => return Ok(reply),
-                Turn::Again(_) => {}
+            self.go_on(rt, caller, call, &mut reply)?;
+            match reply {
+                Some(reply) => return Ok(reply),
+                None => {}
             }
             match self.access(caller, call) {
                 Quick::Word(word) => return Ok(Reply::Word(word)),

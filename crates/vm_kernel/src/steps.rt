@@ -5,12 +5,13 @@ ghost use Rattle.vm_core.specs.Fits.{FitsAt};
 ghost use Rattle.vm_core.specs.vm_types.WellFormed.{IsWellFormed};
 ghost use Rattle.vm_core.specs.vm_world.Events.{IsEvent, CanTry};
 ghost use Rattle.vm_core.specs.vm_world.State.{Sent};
-ghost use Rattle.vm_kernel.specs.Notes.{note_of_held, IsUnperformed, AreUnperformed, InHand};
+ghost use Rattle.vm_kernel.specs.Notes.{note_of_held, IsUnperformed, AreUnperformed, InHand, IsSentFor};
 ghost use Rattle.vm_core.specs.fault_entry.Accesses.{IsAccess};
 ghost use Rattle.vm_kernel.specs.Steps.{TriesAccess, TriesCall, EndsFlight, IsForNone, IsNoteFor};
 
 use crate::sent::SentFlight;
 use std::alloc::AllocError;
+use std::snapshot::Snapshot;
 use vm_core::{Answer, Attempt, Call, Disk, Hold, Plan, Reply, VmState};
 
 /// What a try comes to.
@@ -23,22 +24,25 @@ pub(crate) enum Tried {
 }
 
 /// Begins the transfer of the plan that was answered last.
+#[inline(always)]
 fn send<D: Disk>(
     state: &mut VmState<D>,
     seat: u32,
     plan: Plan,
-    of: Option<(u32, Call)>,
+    of: &Option<(u32, Call)>,
 ) -> SentFlight<D>
     requires fits { FitsAt state.old seat None }
-    requires kept { state.old.plan ≡ Some (record { seat = seat; plan = plan; of = of }) }
+    requires kept { state.old.plan ≡ Some (record { seat = seat; plan = plan; of = of.now }) }
     // One event, which makes no entry: the flight of the plan is out, and waits for its transfer.
     ensures event { IsEvent seat state.old None state.new (note_of_held (Some result)) }
     ensures fresh { IsUnperformed result }
-    ensures of { result.of ≡ of }
+    ensures of { result.of.value ≡ of.now }
     ensures same { state.new.history ≡ state.old.history }
 {
-    let flight = state.begin(seat, plan);
-    SentFlight { flight, of }
+    SentFlight {
+        flight: state.begin(seat, plan),
+        of: Snapshot::of(of),
+    }
 }
 
 /// Tries a call, and begins the transfer that it needs.
@@ -61,7 +65,7 @@ pub(crate) fn try_and_begin<D: Disk>(
     match state.try_call(seat, process, call)? {
         Attempt::Done(reply) => Ok(Tried::Done(reply)),
         Attempt::Need(plan) => {
-            *sent = Some(send(state, seat, plan, Some((process, *call))));
+            *sent = Some(send(state, seat, plan, &Some((process, *call))));
             Ok(Tried::Out)
         }
         Attempt::Busy(hold) => Ok(Tried::Busy(hold)),
@@ -91,7 +95,7 @@ fn send_for<D: Disk>(
     ensures for_call { IsNoteFor process call.now (note_of_held sent.new) }
     ensures same { state.new.history ≡ state.old.history }
 {
-    *sent = Some(send(state, seat, plan, Some((process, *call))));
+    *sent = Some(send(state, seat, plan, &Some((process, *call))));
 }
 
 /// Tries a load or a store, and begins the transfer that it needs.
@@ -120,29 +124,24 @@ pub(crate) fn access_and_begin<D: Disk>(
     answer
 }
 
-fn lent(of: &Option<(u32, Call)>) -> Option<(u32, &Call)>
-    ensures { option_map (λ (c : ℕ × _). (c.0, c.1.now)) result ≡ of.now }
-{
-    match of {
-        Some(of) => Some((of.0, &of.1)),
-        None => None,
-    }
-}
-
-/// The flight of a seat ends: its frame and its disk come back. Some, with the device error, where it failed and was for a call.
+/// The flight of a seat, which is for this process and call, ends: its frame and its disk come back. Some, with the device error, where
+/// it failed and was for a call.
+#[inline(always)]
 pub(crate) fn end_flight<D: Disk>(
     state: &mut VmState<D>,
     seat: u32,
     sent: SentFlight<D>,
+    call: Option<(u32, &Call)>,
 ) -> Option<Reply>
     requires back { (note : Sent) × FitsAt state.old seat (Some note)
         × InHand (Some sent) (Some note) }
+    requires of { IsSentFor sent (option_map (λ (c : ℕ × _). (c.0, c.1.now)) call) }
     ensures ends { (note : Sent) → InHand (Some sent) (Some note)
         → IsEvent seat state.old (Some note) state.new None
         × EndsFlight state.old state.new note result }
 {
-    let SentFlight { flight, of } = sent;
-    state.end(seat, flight, lent(&of))
+    let SentFlight { flight, of: _ } = sent;
+    state.end(seat, flight, call)
 }
 
 // Begins the push that the clock answers. Not inline, so that a move without one has no room for a flight.
@@ -162,7 +161,7 @@ fn push_out<D: Disk>(
     ensures of { IsForNone (note_of_held sent.new) }
     ensures same { state.new.history ≡ state.old.history }
 {
-    *sent = Some(send(state, seat, plan, None));
+    *sent = Some(send(state, seat, plan, &None));
 }
 
 /// One move of a hand of the clock, and the begin of the push that it answers, which is in hand then.

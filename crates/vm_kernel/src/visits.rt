@@ -1,11 +1,11 @@
 //! What a seat does from the moment that it has the state to the moment that it leaves it.
-ghost use Rattle.std.specs.Prelude.{◌≡◌, ◌<◌, ℕ, Some, None, length, true};
+ghost use Rattle.std.specs.Prelude.{◌≡◌, ◌<◌, ℕ, Some, None, length, option_map, true};
 ghost use Rattle.kernel_lock.specs.Seats.{IsSeatOf};
 ghost use Rattle.vm_core.specs.Fits.{FitsAt};
 ghost use Rattle.vm_core.specs.vm_types.WellFormed.{IsWellFormed};
 ghost use Rattle.vm_core.specs.vm_world.Events.{CanTry};
 ghost use Rattle.vm_core.specs.vm_world.State.{Sent};
-ghost use Rattle.vm_kernel.specs.Notes.{note_of_held, AreUnperformed, InHand};
+ghost use Rattle.vm_kernel.specs.Notes.{note_of_held, AreUnperformed, InHand, IsSentFor};
 ghost use Rattle.vm_kernel.specs.Visits.{LeavesAccess, LeavesTry, LeavesEnd, LeavesHand};
 ghost use Rattle.vm_core.specs.fault_entry.Accesses.{IsAccess};
 ghost use Rattle.vm_kernel.specs.Steps.{IsForNone};
@@ -83,24 +83,27 @@ pub(crate) fn access_and_leave<D: Disk>(
     answer
 }
 
-/// The transfer that a seat has outside ends, and the seat leaves.
+/// The transfer that a seat has outside, which is for this process and call, ends, and the seat leaves.
+#[inline(always)]
 pub(crate) fn end_and_leave<D: Disk>(
     lock: &KernelLock<BoxedState<D>>,
     seat: &mut Seat<BoxedState<D>>,
     state: BoxedState<D>,
     sent: SentFlight<D>,
+    call: Option<(u32, &Call)>,
 ) -> Option<Reply>
     requires seat { IsSeatOf lock.now seat.old }
     requires inside { (seat.old.inside ≡ true) × (seat.old.state ≡ Some state) }
     requires fits { FitsAt state seat.old.number seat.old.note }
     requires hand { InHand (Some sent) seat.old.note }
+    requires of { IsSentFor sent (option_map (λ (c : ℕ × _). (c.0, c.1.now)) call) }
     // The seat goes out of one event, with nothing as its note.
     ensures seat { IsSeatOf lock.now seat.new }
     ensures leaves { (note : Sent) → seat.old.note ≡ Some note
         → LeavesEnd seat.old state note seat.new result }
 {
     let mut state = state;
-    let reply = state.end_flight(seat.number(), sent);
+    let reply = state.end_flight(seat.number(), sent, call);
     lock.leave(seat, state, &None);
     lock.tell();
     reply

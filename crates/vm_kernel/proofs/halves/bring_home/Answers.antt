@@ -4,13 +4,16 @@ use Rattle.vm_kernel.specs.Callers.{SeatSeen}
 use Rattle.vm_kernel.specs.Notes.{InHand}
 use Rattle.vm_kernel.specs.Steps.{IsForNone}
 use Rattle.vm_kernel.proofs.Fits.{fits-in}
-use Rattle.vm_kernel.proofs.Visited.{in-hand, landed-comes, lands-home}
+use Rattle.vm_kernel.proofs.Visited.{in-hand, landed-comes, lands-home, sent-for-none}
 use Rattle.vm_kernel.proofs.halves.bring_home.Goals as goal
 
 pub end_and_leave-requires-clause-fits : goal.end_and_leave-requires-clause-fits
 end_and_leave-requires-clause-fits g c =
     subst (λ (w : SeatSeen). FitsAt c.enter-state.result w.number w.note) (sym c.enter-state.ensures.inside.3)
     (fits-in c.args.lock.now c.args.lock.now.seats c.args.seat.now c.enter-state.result c.enter-state.ensures.state)
+
+pub end_and_leave-requires-clause-of : goal.end_and_leave-requires-clause-of
+end_and_leave-requires-clause-of g c = sent-for-none c.in-Some.flight c.args.sent.now c.args.seat.now.note (sym c.take.ensures.value ∙ c.in-Some.is) c.requires.idle.hand c.requires.of
 
 pub returns-clause-home : goal.returns-clause-home
 returns-clause-home g c =
