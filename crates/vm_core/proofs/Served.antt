@@ -1,6 +1,6 @@
 -- A call that is served becomes an event.
-use Rattle.std.proofs.Common.{◌≡◌, ◌≢◌, ℕ, zero, suc, ◌-◌, ◌<◌, ◌≤◌, ◌||◌, Bool, true, false, cond, List, length, Option, Some, None, refl, sym, ap, ◌∙◌, inl, inr, ◌⊎◌, subst, arith, get_or-set_same, get_or-set_other, length-set}
-use Rattle.std.specs.Prelude.{Result, Ok, Err, IfOk, OnErr, ◌↔◌, filter, slice_index_or, slice_set, IsSome, is_some}
+use Rattle.std.proofs.Common.{◌≡◌, ◌≢◌, ℕ, zero, suc, ◌-◌, ◌<◌, ◌≤◌, ◌||◌, Bool, true, false, cond, List, [], length, Option, Some, None, refl, sym, ap, ◌∙◌, inl, inr, ◌⊎◌, subst, arith, get_or-set_same, get_or-set_other, length-set}
+use Rattle.std.specs.Prelude.{Result, Ok, Err, IfOk, OnErr, IfSome, IfNone, ◌↔◌, filter, slice_index_or, slice_set, IsSome, is_some}
 use Rattle.std.proofs.lemmas.Bool.{cases_eq}
 use Rattle.std.proofs.lemmas.List.{get_or_past}
 use Rattle.std.proofs.lemmas.Bool.Decides.{eqb_tells}
@@ -32,6 +32,8 @@ use Rattle.fault_entry.specs.vm_types.declared.call.Reply.TheVariants.{Synced}
 use Rattle.fault_entry.specs.vm_world.CallSteps.{StaysAlive, MarksAfterReply, with_entry_marked}
 use Rattle.fault_entry.specs.vm_world.EntryLaws.{LocksAfter, StartsAfter, MayUseFile}
 use Rattle.fault_entry.specs.vm_world.Events.{IsEvent, CanTry, MayBear}
+use Rattle.fault_entry.specs.Answers.{attempt_of}
+use Rattle.fault_entry.specs.declared.answers.Answer.{Answer}
 use Rattle.fault_entry.specs.vm_world.FlatMemory.{Memory}
 use Rattle.fault_entry.specs.vm_world.Marks.{MarksSeen}
 use Rattle.fault_entry.specs.vm_world.Segments.{Spaces}
@@ -41,7 +43,9 @@ use Rattle.fault_entry.specs.vm_world.State.{KernelState, Seats, seat_of, room_o
 use Rattle.fault_entry.specs.vm_world.StateFits.{StateFits}
 use Rattle.fault_entry.specs.vm_world.SyncSteps.{start_of, starts_begun, with_call_begun}
 use Rattle.fault_entry.specs.vm_world.Wants.{HoldsUp, accessed_page}
+use Rattle.fault_entry.specs.vm_world.Words as words
 use Rattle.fault_entry.specs.vm_world.World.{World}
+use Rattle.fault_entry.specs.vm_world.declared.world.World as rust
 use Rattle.fault_entry.specs.vm_world.ZeroObjects.{KnowsZeros}
 use Rattle.fault_entry.proofs.vm_world.KeptStarts.{start_rule}
 use Rattle.fault_entry.proofs.vm_world.Servings.{serving_law}
@@ -552,6 +556,12 @@ pub kept-result : {E : Type 0} (old new : Memory) (zeros after : List (Option �
     → OnErr r (new ≡ old) → IsSoundKernel new.world.store after new.spaces entries seats
 kept-result old new zeros after pending more calls p call (Ok a) entries seats k known serves same = kept-served old new zeros after pending more calls p call a entries seats k known serves
 kept-result old new zeros after pending more calls p call (Err e) entries seats k known serves same = kept-moved old new zeros after entries seats k known (ap (λ (m : Memory). m.world.store.bays) same) (ap (λ (m : Memory). length m.world.store.frames) same)
+
+-- Of a hit that was looked for.
+pub kept-hit : {D : Type 0} (w v : rust.World D) (spaces : Spaces) (p : ℕ) (call : Call) (r : Option Answer) (entries : List ℕ) (seats : ℕ) → IsSoundKernel w.store w.zeros spaces entries seats → KnowsZeros v.zeros spaces
+    → IfSome r (λ a. (calls : List (Option ℕ)) → Serves (words.memory w spaces) (words.memory v spaces) w.pending v.pending calls p call (attempt_of a)) → IfNone r (v ≡ w) → IsSoundKernel v.store v.zeros spaces entries seats
+kept-hit w v spaces p call (Some a) entries seats k known serves none = kept-served (words.memory w spaces) (words.memory v spaces) w.zeros v.zeros w.pending v.pending [] p call (attempt_of a) entries seats k known (serves [])
+kept-hit w v spaces p call None entries seats k known serves none = subst (λ x. IsSoundKernel x.store x.zeros spaces entries seats) (sym none) k
 
 -- Nothing changed.
 pub same-again : (s t : KernelState) (m : Memory) (pending : ℕ) → s ≡ t → m ≡ s.memory → pending ≡ s.pending → with_memory s m pending ≡ t

@@ -1,6 +1,8 @@
 //! The history, which has room for all entries that the processes may make.
 ghost use Rattle.std.specs.Prelude.{◌≡◌, suc, ◌+◌, ◌<◌, ◌≤◌, ◌++◌, ◌∷◌, ◌^◌, [], length, sum_by, vec_len, vec_capacity, IfOk};
 ghost use Rattle.fault_entry.specs.flat_model.Told.{entries_of};
+ghost use Rattle.fault_entry.specs.vm_types.declared.call.Call.TheVariants.{Load, Store};
+ghost use Rattle.fault_entry.specs.vm_types.declared.call.Reply.TheVariants as reply;
 ghost use Rattle.fault_entry.specs.vm_world.State.{room_of};
 
 use fault_entry::{Call, Entry, Reply};
@@ -150,6 +152,51 @@ impl Ledger {
     {
         self.left[process as usize - 1] -= 1;
         append(&mut self.history, process, call, reply, cleared);
+    }
+
+    /// Adds the entry of a load of a process that may make one more. It is made in the history at once: no call and no reply is moved. Takes
+    /// no memory.
+    #[inline(always)]
+    pub fn push_load(&mut self, process: u32, addr: u32, size: u32, word: u32, cleared: u64)
+        requires { length (entries_of self.old.history process)
+            < room_of self.old.entries process }
+        ensures history { self.new.history ≡ self.old.history ++ record {
+          process = process;
+          call = Load addr size;
+          reply = reply.Word word;
+          cleared = cleared;
+        } ∷ [] }
+        ensures entries { self.new.entries ≡ self.old.entries }
+    {
+        self.left[process as usize - 1] -= 1;
+        self.history.push_reserved(Entry {
+            process,
+            call: Call::Load { addr, size },
+            reply: Reply::Word(word),
+            cleared,
+        });
+    }
+
+    /// The same of a store.
+    #[inline(always)]
+    pub fn push_store(&mut self, process: u32, addr: u32, size: u32, value: u32, cleared: u64)
+        requires { length (entries_of self.old.history process)
+            < room_of self.old.entries process }
+        ensures history { self.new.history ≡ self.old.history ++ record {
+          process = process;
+          call = Store addr size value;
+          reply = reply.Done;
+          cleared = cleared;
+        } ∷ [] }
+        ensures entries { self.new.entries ≡ self.old.entries }
+    {
+        self.left[process as usize - 1] -= 1;
+        self.history.push_reserved(Entry {
+            process,
+            call: Call::Store { addr, size, value },
+            reply: Reply::Done,
+            cleared,
+        });
     }
 
     /// The entries.

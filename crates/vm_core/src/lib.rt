@@ -13,6 +13,7 @@ mod files;
 mod finish;
 mod forks;
 mod history;
+mod hits;
 mod kept;
 mod ledger;
 mod marks;
