@@ -3,11 +3,21 @@ use Rattle.std.proofs.Common.{◌≡◌, ℕ, Option, Some, None, refl, sym, sub
 use Rattle.vm_core.specs.block_device.Counts.{HasRisen}
 use Rattle.vm_core.specs.page_store.Bays.{bay_at, home}
 use Rattle.vm_core.specs.page_store.Flight.{FlightSeen, Progress, fresh, done, failed}
+use Rattle.vm_core.specs.vm_types.declared.call.Call.{Call}
 use Rattle.vm_core.specs.vm_types.declared.call.Reply.{Reply}
 use Rattle.vm_core.specs.vm_types.declared.call.Reply.TheVariants.{Io}
 use Rattle.vm_core.specs.Flights.{IsBack, EndsWith, answer_at_end, error_at_end}
 use Rattle.vm_core.specs.vm_world.State.{KernelState, Sent, Caller}
-use Rattle.vm_kernel.specs.Steps.{EndsFlight}
+use Rattle.vm_kernel.specs.Steps.{EndsFlight, IsForNone, IsNoteFor, IsOutFor}
+
+-- what went out is for its call, or for none
+pub out-for : (p : ℕ) (call : Call) (o : Option Sent) → IsOutFor (Some (p, call)) o → IsNoteFor p call o
+out-for p call None out = absurd out
+out-for p call (Some note) out = out
+
+pub out-for-none : (o : Option Sent) → IsOutFor None o → IsForNone o
+out-for-none None out = absurd out
+out-for-none (Some note) out = out
 
 pub ended : (old new : KernelState) (note : Sent) (f : FlightSeen) (of : Option Caller) (r : Option Reply) → IsBack note f of → r ≡ answer_at_end f of → EndsWith old new of r
     → bay_at new.memory.world.store.bays f.number ≡ home f.disk → EndsFlight old new note r

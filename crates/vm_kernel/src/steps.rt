@@ -5,9 +5,9 @@ ghost use Rattle.vm_core.specs.Fits.{FitsAt};
 ghost use Rattle.vm_core.specs.vm_types.WellFormed.{IsWellFormed};
 ghost use Rattle.vm_core.specs.vm_world.Events.{IsEvent, CanTry};
 ghost use Rattle.vm_core.specs.vm_world.State.{Sent};
-ghost use Rattle.vm_kernel.specs.Notes.{note_of_held, IsUnperformed, AreUnperformed, InHand, IsSentFor};
+ghost use Rattle.vm_kernel.specs.Notes.{note_of_held, AreUnperformed, InHand, IsSentFor};
 ghost use Rattle.vm_core.specs.fault_entry.Accesses.{IsAccess};
-ghost use Rattle.vm_kernel.specs.Steps.{TriesAccess, TriesCall, EndsFlight, IsForNone, IsNoteFor};
+ghost use Rattle.vm_kernel.specs.Steps.{TriesAccess, TriesCall, EndsFlight, IsForNone, IsNoteFor, IsOutFor};
 
 use crate::sent::SentFlight;
 use std::alloc::AllocError;
@@ -23,26 +23,28 @@ pub(crate) enum Tried {
     Busy(Hold),
 }
 
-/// Begins the transfer of the plan that was answered last.
+/// Begins the transfer of the plan that was answered last: its flight is in this place then.
 #[inline(always)]
 fn send<D: Disk>(
     state: &mut VmState<D>,
     seat: u32,
     plan: Plan,
     of: &Option<(u32, Call)>,
-) -> SentFlight<D>
+    sent: &mut Option<SentFlight<D>>,
+)
     requires fits { FitsAt state.old seat None }
     requires kept { state.old.plan ≡ Some (record { seat = seat; plan = plan; of = of.now }) }
+    requires none { sent.old ≡ None }
     // One event, which makes no entry: the flight of the plan is out, and waits for its transfer.
-    ensures event { IsEvent seat state.old None state.new (note_of_held (Some result)) }
-    ensures fresh { IsUnperformed result }
-    ensures of { result.of.value ≡ of.now }
+    ensures event { IsEvent seat state.old None state.new (note_of_held sent.new) }
+    ensures ready { AreUnperformed sent.new }
+    ensures of { IsOutFor of.now (note_of_held sent.new) }
     ensures same { state.new.history ≡ state.old.history }
 {
-    SentFlight {
+    *sent = Some(SentFlight {
         flight: state.begin(seat, plan),
         of: Snapshot::of(of),
-    }
+    });
 }
 
 /// Tries a call, and begins the transfer that it needs.
@@ -65,7 +67,7 @@ pub(crate) fn try_and_begin<D: Disk>(
     match state.try_call(seat, process, call)? {
         Attempt::Done(reply) => Ok(Tried::Done(reply)),
         Attempt::Need(plan) => {
-            *sent = Some(send(state, seat, plan, &Some((process, *call))));
+            send(state, seat, plan, &Some((process, *call)), sent);
             Ok(Tried::Out)
         }
         Attempt::Busy(hold) => Ok(Tried::Busy(hold)),
@@ -95,7 +97,7 @@ fn send_for<D: Disk>(
     ensures for_call { IsNoteFor process call.now (note_of_held sent.new) }
     ensures same { state.new.history ≡ state.old.history }
 {
-    *sent = Some(send(state, seat, plan, &Some((process, *call))));
+    send(state, seat, plan, &Some((process, *call)), sent);
 }
 
 /// Tries a load or a store, and begins the transfer that it needs.
@@ -161,7 +163,7 @@ fn push_out<D: Disk>(
     ensures of { IsForNone (note_of_held sent.new) }
     ensures same { state.new.history ≡ state.old.history }
 {
-    *sent = Some(send(state, seat, plan, &None));
+    send(state, seat, plan, &None, sent);
 }
 
 /// One move of a hand of the clock, and the begin of the push that it answers, which is in hand then.
