@@ -42,3 +42,4 @@ pub mod Unfailing
 pub use Rattle.volume_format.proofs.vnode_files as vnode_files
 pub use Rattle.vm_report.proofs.flat_model as flat_model
 pub use Rattle.vm_report.proofs.vm_script as vm_script
+pub use Rattle.vm_report.proofs as vm_report

@@ -29,10 +29,10 @@ pub use showing::{Heading, ShowStop, show_files};
 pub use stops::{HandedBack, OpenStop, Refusal};
 pub use tracing::trace_opening;
 pub use vm_report::{
-    Call, Entry, MOST_BYTES, Plan, PlanAct, PlanLine, Reply, ScriptFault, SetupAct, SetupLine,
-    amounts_of, broken_rule, disk_fault, generate, parse, parts, process_sections, rack_fault,
-    read_fault, script_fault, setup_fault, setup_law, sound_law, summary, trace_entries, usage,
-    volume_fault,
+    Call, Entry, MOST_BYTES, Plan, PlanAct, PlanLine, Reply, ScriptFault, SectionsLeft, SetupAct,
+    SetupLine, amounts_of, broken_rule, disk_fault, generate, parse, parts, process_sections,
+    rack_fault, read_fault, script_fault, setup_fault, setup_law, sound_law, summary,
+    trace_entries, usage, volume_fault,
 };
 pub use volume_disks::Single;
 pub use volume_format::Files;
