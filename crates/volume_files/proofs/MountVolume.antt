@@ -2,6 +2,7 @@
 use Rattle.std.proofs.Common.{◌≡◌, ℕ, ◌+◌, Bool, false, List, [], ◌∷◌, ◌++◌, map, Option, Some, None, refl, sym, ap, ◌∙◌, subst, arith, append-nil, append_assoc, inl, inr, replicate}
 use Rattle.std.specs.Prelude.{IfSome, MatchOption, Err, option_and_then}
 use Rattle.std.specs.Option.{option_to_list}
+use Rattle.std.proofs.lemmas.Bool.{false≢true}
 use Rattle.std.proofs.lemmas.List.{map-append}
 use Rattle.std.proofs.lemmas.List.Elements.{All-append, All-cons, All-nil}
 use Rattle.std.proofs.lemmas.List.Sums.{sum_by-append}
@@ -57,7 +58,7 @@ module _ {D : Type 0} (seen : D → DiskSeen) (has : (d : D) → HasBlocks (seen
   plain_halts s None None (stop.Size n) one two c = absurd c
   plain_halts s None None stop.Unequal one two c = absurd c
   plain_halts s (Some d) None (stop.Failed f) one two c = absurd c
-  plain_halts s (Some d) None stop.Memory one two c = absurd c.1
+  plain_halts s (Some d) None stop.Memory one two c = absurd (false≢true c.1)
   plain_halts s (Some d) None (stop.Size n) one two c = absurd c
   plain_halts s (Some d) None stop.Unequal one two c = absurd c
 
