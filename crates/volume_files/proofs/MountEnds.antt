@@ -1,6 +1,6 @@
 -- A run that stops as its disks are attached.
 use Rattle.std.proofs.Common.{◌≡◌, ℕ, ◌<◌, ◌≤◌, arith, inl, List, [], ◌∷◌, map, Option, Some, None, refl, sym, ap, ◌∙◌, subst, inr}
-use Rattle.std.specs.Prelude.{IfErr, MatchOption, nat_le, option_map, Result, Ok, Err}
+use Rattle.std.specs.Prelude.{IfErr, IfSome, MatchOption, nat_le, option_map, Result, Ok, Err}
 use Rattle.block_device.specs.Counts.{HasRisen}
 use Rattle.block_device.specs.DiskSeen.{DiskSeen}
 use Rattle.block_device.specs.RackSeen.{spec_number}
@@ -12,7 +12,7 @@ use Rattle.volume_files.specs.declared.stops.OpenStop.{OpenStop}
 use Rattle.volume_files.specs.declared.stops.OpenStop.TheVariants as halt
 use Rattle.volume_files.specs.declared.stops.HandedBack.{HandedBack}
 use Rattle.volume_files.specs.Attached.{StopCause, StopsEarly, bare_disks, numbered_seen}
-use Rattle.volume_files.specs.Handed.{AreUntouched, HandsBelow, HandsUnracked, IsCountedBy, IsSwapAsGiven, IsSwapFor}
+use Rattle.volume_files.specs.Handed.{AreUntouched, HandsBelow, HandsUnracked, IsCountedBy, IsSwapAsGiven, IsSwapFor, disk_handed}
 use Rattle.volume_files.specs.Mounting.{Holds, HaltsNumber, Halts, UngivenCause}
 use Rattle.volume_files.specs.Opened.{volume_number}
 use Rattle.volume_files.proofs.MountStops.{ungiven_later, stopped}
@@ -63,6 +63,7 @@ swap_stopped plan holds old new (halt.Failed f) some c = inl (
   record {
     handed = subst (λ (o : Option (ℕ × ℕ)). MatchOption o (HandsUnracked plan holds [] None f.disk) (λ counts. HandsBelow plan holds (λ n. nat_le n f.disk) 0 [] None)) (sym c.1)
         (inl (c.0, some, record { no_disk = refl; no_swap = refl }));
+    sized = subst (λ (o : Option (ℕ × ℕ)). IfSome o (λ counts. IfSome (disk_handed plan [] None f.disk) (λ d. (2 ≤ d.size) × (d.size ≤ 16384)))) (sym c.1) tt;
     first = λ told. inl c.0;
   },
 )

@@ -3,7 +3,7 @@ use Rattle.volume_files.proofs.StopLemmas.{front_swap as swap_front}
 use Rattle.std.proofs.Common.{◌≡◌, ℕ, suc, ◌+◌, ◌-◌, ◌<◌, ◌≤◌, ◌==◌, Bool, true, false, List, [], ◌∷◌, ◌++◌, length, map, Option, Some, None, Result, Ok, Err}
 use Rattle.std.proofs.Common.{refl, sym, ap, ◌∙◌, subst, arith, append-nil, append_assoc, inl, inr}
 use Rattle.std.proofs.Math.Seq.{take-append_seam}
-use Rattle.std.specs.Prelude.{IsSomeAnd, All, IfErr, IfSome, IsOk, MatchOption, nat_lt, nat_le, option_and_then, slice_get, zip, take, if◌then◌else◌}
+use Rattle.std.specs.Prelude.{IsSomeAnd, All, IfErr, IfSome, IsOk, MatchOption, nat_lt, nat_le, option_and_then, slice_get, zip, take, if◌then◌else◌, ⊤}
 use Rattle.std.specs.List.{Contains, cons_option}
 use Rattle.std.specs.Map.{lookup}
 use Rattle.std.proofs.lemmas.Bool.Decides.{nat_tests}
@@ -230,6 +230,7 @@ module _ (plan : PlanSeen) (holds : Holds) (old new : ℕ) (swap : Option DiskSe
       record {
         handed = subst (λ o. MatchOption o (HandsUnracked plan holds disks swap f.disk) (λ counts. HandsBelow plan holds (λ n. nat_le n f.disk) 0 disks swap)) (sym none)
             (subst (λ (x : ℕ). HandsUnracked plan holds disks swap x) (sym at) handed);
+        sized = subst (λ (o : Option (ℕ × ℕ)). IfSome o (λ counts. IfSome (disk_handed plan disks swap f.disk) (λ d. (2 ≤ d.size) × (d.size ≤ 16384)))) (sym none) tt;
         first = λ tells. subst (NoneBreaksBefore plan holds) (sym at) (none_breaks n s is has (told tells));
       },
     )
@@ -298,14 +299,16 @@ module _ (plan : PlanSeen) (holds : Holds) (old new : ℕ) (swap : Option DiskSe
             });
           }
       unread_stop (halt.Failed f) c =
-          let e : f.disk ≡ number = c.number ∙ (given.number ∙ volume_is plan.setup number s is) in
+          let e : f.disk ≡ number = c.0.number ∙ (given.number ∙ volume_is plan.setup number s is) in
           let found : disk_handed plan (bare_disks (front ++ d ∷ [])) swap f.disk ≡ Some d.1 = ap (disk_handed plan (bare_disks (front ++ d ∷ [])) swap) e ∙ found_now in
           inl (
             if-counted (HasRisen old new) (λ counts. IsCountedBy plan (bare_disks (front ++ d ∷ [])) swap f.disk counts.0 counts.1)
-                f.counts c.risen (record { risen = c.risen; disk = d.1; back = found; last = c.last }),
+                f.counts c.0.risen (record { risen = c.0.risen; disk = d.1; back = found; last = c.0.last }),
             record {
               handed = if-counted (HandsUnracked plan holds (bare_disks (front ++ d ∷ [])) swap f.disk) (λ counts. HandsBelow plan holds (λ n. nat_le n f.disk) 0 (bare_disks (front ++ d ∷ [])) swap)
-                  f.counts c.risen (upto f.disk e);
+                  f.counts c.0.risen (upto f.disk e);
+              sized = if-counted ⊤ (λ counts. IfSome (disk_handed plan (bare_disks (front ++ d ∷ [])) swap f.disk) (λ x. (2 ≤ x.size) × (x.size ≤ 16384))) f.counts c.0.risen
+                  (subst (λ (o : Option DiskSeen). IfSome o (λ x. (2 ≤ x.size) × (x.size ≤ 16384))) (sym found) (c.1, c.2));
               first = λ told.
                   let each = all_last (bare_disks front) d.1 (subst (λ ds. All Told ds) bare_now told.each) in
                   none_breaks f.disk s is (inl (volume_is plan.setup number s is ∙ sym e)) each.0;

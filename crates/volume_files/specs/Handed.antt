@@ -220,9 +220,10 @@ pub record HasRefusalCause (plan : PlanSeen) (holds : Spec → Option (List (Lis
   pub told : HaveTold disks swap → opened_files plan holds ≡ Err r
   pub breaks : BreaksSo plan holds disks swap r
 
--- The rack failed, or a disk's block 0 wasn't read: nothing was written, and where each disk that came back tells, none that was read before breaks a rule.
+-- The rack failed, or block 0 of a disk wasn't read, whose size serves: nothing was written, and where each disk that came back tells, none that was read before breaks a rule.
 pub record StopsAttaching (plan : PlanSeen) (holds : Spec → Option (List (List ℕ))) (disks : List DiskSeen) (swap : Option DiskSeen) (fault : OpenFaultSeen) : Type 0 where
   pub handed : HandsUnread plan holds disks swap fault
+  pub sized : IfSome fault.counts (λ counts. IfSome (disk_handed plan disks swap fault.disk) (λ d. (2 ≤ d.size) × (d.size ≤ 16384)))
   pub first : HaveTold disks swap → NoneBreaksBefore plan holds fault.disk
 
 -- The counts are those of the disk of this number before and after its last transfer: its count rose in it, and the disk comes back with the later one.

@@ -51,10 +51,10 @@ pub record SaysTableRead (d : DiskSeen) (t : TableSeen) : Type 0 where
   pub volume : IsVolumeTable t
   pub read : IfSome d.content (λ blocks. table_on blocks ≡ Ok t)
 
--- Why no table was read: the disk counted a fault of the transfer, its size or its block 0 breaks a rule of volumes, or memory lacked.
+-- Why no table was read: its size or its block 0 breaks a rule of volumes, its size serves and the disk counted a fault of the transfer, or memory lacked.
 abbrev pub UnreadCause : ℕ × DiskSeen → OpenStop → Type 0
 UnreadCause d (halt.Refused (refusal.Volume number rule)) = (number ≡ d.0) × IfSome d.1.content (λ blocks. table_on blocks ≡ Err rule) × HasBadTable d.1.size rule
-UnreadCause d (halt.Failed f) = HasLastFault 0 d (open_fault_counts f)
+UnreadCause d (halt.Failed f) = HasLastFault 0 d (open_fault_counts f) × (2 ≤ d.1.size) × (d.1.size ≤ 16384)
 UnreadCause d halt.Memory = Unit {0}
 UnreadCause d how = ⊥
 

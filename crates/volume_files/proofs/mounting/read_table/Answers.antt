@@ -1,4 +1,4 @@
-use Rattle.std.proofs.Common.{ℕ, List, ◌<◌, ◌⊎◌, inl, inr, arith, replicate, subst}
+use Rattle.std.proofs.Common.{rules, ◌≡◌, ℕ, List, ◌<◌, ◌⊎◌, inl, inr, arith, replicate, subst}
 use Rattle.std.specs.Prelude.{OnOk}
 use Rattle.std.proofs.lemmas.List.{length-replicate}
 use Rattle.block_device.specs.DiskSeen.{Shows}
@@ -25,3 +25,9 @@ returns-then-blocks-lt2-clause-err g c =
     let bad = bad-size size out in
     let zeros : List ℕ = replicate 4096 0 in
     (c.number-number.ensures, size-told (g.D.Disk.seen d).content size (g.met.D.Disk.has_blocks d) bad, (zeros, length-replicate {A = ℕ} 4096 0, size-bad zeros size bad))
+
+-- its size was tested before
+pub returns-in-Err-clause-err : goal.returns-in-Err-clause-err
+returns-in-Err-clause-err g c =
+    let size : (g.D.Disk.seen c.read.new.self.disk).size ≡ (g.D.Disk.seen c.args.disk.now.disk).size = c.read.ensures.reads.size in
+    let one = c.blocks-blocks.ensures in (search rules, omega (arith, c.if-blocks-lt2.false, one, size), omega (arith, c.if-blocks-gt16384.false, one, size))
