@@ -1,5 +1,6 @@
 pub mod Opened
 pub mod Handed
+pub mod Numbers
 pub mod Closed
 pub mod Texts
 pub mod Attached

@@ -8,6 +8,7 @@ mod disk_tables;
 mod file_lines;
 mod free_places;
 mod mounting;
+mod numbering;
 mod page_disk;
 mod page_lines;
 mod pages;
@@ -23,6 +24,7 @@ pub use block_device::{
 };
 pub use closing::{TableStop, write_tables};
 pub use joined_disk::JoinedDisk;
+pub use numbering::disk_numbers;
 pub use page_disk::PageDisk;
 pub use placing::{Placed, place};
 pub use showing::{Heading, ShowStop, show_files};
