@@ -27,12 +27,12 @@ use Rattle.volume_files.specs.Written.{disk_fault_counts, AreFilesBytes, IsShowS
 use Rattle.volume_files.specs.Handed.{kinds_of}
 use Rattle.volume_files.proofs.DiskCounts.{kinds-read, kinds-written}
 use Rattle.volume_files.proofs.WrittenTexts.{risen_since, wrote_then}
-use Rattle.volume_files.proofs.WrittenTexts.{front_then, part_more, part_then}
+use Rattle.volume_files.proofs.WrittenTexts.{front_more, front_then, part_more, part_then}
 
 module _ (o : Options) (plan : PlanSeen) (H : List Entry) (infos : List FileInfo) (k0 k1 : SinkSeen) (old new : List (ℕ × DiskSeen)) where
   -- the text before the files wasn't written
   pub middle-stopped : (bytes : ℕ → List ℕ) → AreFilesBytes infos old bytes → (how : Ending) → MiddleStops (middle_text o plan H) k0 k1 how → ShowEnds o plan H infos k0 k1 old new how
-  middle-stopped bytes are ending.Memory m = (bytes, are, (0, m))
+  middle-stopped bytes are ending.Memory m = (bytes, are, front_more k0 k1 (middle_text o plan H) (files_or_none o.make infos bytes) m)
   middle-stopped bytes are ending.Sink m = (m.0, (bytes, are, part_more k0 k1 (middle_text o plan H) (files_or_none o.make infos bytes) m.1))
   middle-stopped bytes are ending.Whole m = absurd m
   middle-stopped bytes are ending.Usage m = absurd m

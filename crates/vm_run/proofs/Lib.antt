@@ -6,6 +6,7 @@ pub mod Courses
 pub mod Cases
 pub mod LastLines
 pub mod Unfailing
+pub mod WrittenPieces
 pub mod Completes
 pub mod EarlyEnds
 pub mod Traced

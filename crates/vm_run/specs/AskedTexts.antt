@@ -30,3 +30,11 @@ middle_text o plan H = trace_entries o H ++ sections_or_summary o.make plan H
 abbrev pub files_or_none : Option ℕ → List FileInfo → (ℕ → List ℕ) → List ℕ
 files_or_none None infos bytes = file_sections Report infos bytes
 files_or_none (Some number) infos bytes = []
+
+-- What stands before the sections: the entries where a trace is asked for; and the summary of a generated script, which has no sections.
+abbrev pub summary_or_none : Option ℕ → List Entry → List ℕ
+summary_or_none None H = []
+summary_or_none (Some number) H = summary number H
+
+abbrev pub before_sections : Options → List Entry → List ℕ
+before_sections o H = trace_entries o H ++ summary_or_none o.make H

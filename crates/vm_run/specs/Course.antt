@@ -191,11 +191,17 @@ CloseEnds false None o plan H infos k0 k1 old new how = LacksTable infos k0 k1 o
 CloseEnds true (Some f) o plan H infos k0 k1 old new how = (new ≡ old) × CloseFails o plan H f k0 k1 how
 CloseEnds true None o plan H infos k0 k1 old new how = TablesEnd o plan H infos k0 k1 old new how
 
--- Why the text before the files wasn't written.
+-- Why the text before the files wasn't written, or not all of it.
 abbrev pub MiddleStops : List ℕ → SinkSeen → SinkSeen → Ending → Type 0
-MiddleStops text k0 k1 ending.Memory = Wrote k0 k1 []
+MiddleStops text k0 k1 ending.Memory = WroteFront k0 k1 text
 MiddleStops text k0 k1 ending.Sink = HasRisen k0.faults k1.faults × WrotePart k0 k1 text
 MiddleStops text k0 k1 how = ⊥
+
+-- The text was written, but for a rest that is kept back.
+pub record KeptBack (k0 k1 : SinkSeen) (text rest : List ℕ) : Type 0 where
+  pub sent : List ℕ
+  pub wrote : Wrote k0 k1 sent
+  pub whole : sent ++ rest ≡ text
 
 abbrev pub showing_stop : ShowStop DiskFault → Ending
 showing_stop show.Memory = ending.Memory

@@ -1,5 +1,5 @@
 //! The end of a run whose processes ran: the tables, and the report.
-ghost use Rattle.std.specs.Prelude.{ℕ, ◌≡◌, ◌≤◌, ◌<◌, ◌^◌, ◌++◌, [], All, Some, None, length, map, option_map, List, IfOk, IfErr, OnOk, vec_capacity};
+ghost use Rattle.std.specs.Prelude.{ℕ, ◌≡◌, ◌≤◌, ◌<◌, ◌^◌, ◌++◌, [], All, Some, None, length, map, option_map, List, IfOk, vec_capacity};
 ghost use Rattle.volume_files.specs.block_device.Counts.{HasRisen};
 ghost use Rattle.vm_core.specs.page_store.Bays.{pairs_seen};
 ghost use Rattle.volume_files.specs.vm_report.Faults.{disk_fault_text};
@@ -7,16 +7,15 @@ ghost use Rattle.volume_files.specs.vm_types.WellFormed.{IsWellFormed};
 ghost use Rattle.volume_files.specs.Attached.{HaveVolumeNames, bare_disks};
 ghost use Rattle.volume_files.specs.Handed.{member_count};
 ghost use Rattle.volume_files.specs.block_device.DiskSeen.{DiskSeen};
-ghost use Rattle.vm_run.specs.Course.{CloseEnds, CloseFails, MiddleStops, ShowEnds, TablesEnd, UnlessEnded, showing_stop};
+ghost use Rattle.vm_run.specs.Course.{CloseEnds, CloseFails, ShowEnds, TablesEnd, showing_stop};
 ghost use Rattle.vm_run.specs.declared.ending.Ending.TheVariants.{Memory};
 ghost use Rattle.volume_files.specs.Written.{infos_made};
-ghost use Rattle.volume_files.specs.Texts.{Wrote};
 ghost use Rattle.vm_run.specs.AskedTexts.{middle_text};
 ghost use Rattle.volume_files.specs.Written.{LieWell, HaveDisks, HaveExtents, HaveFirstBlocks, AreOnlyRead, WriteTables};
 
 use crate::ending::{Ending, Stop};
 use crate::playing::Played;
-use crate::reporting::middle;
+use crate::reporting::{middle, write_middle};
 use crate::starting::without_numbers;
 use command_line::Options;
 use std::alloc::{AllocError, Global};
@@ -25,44 +24,6 @@ use volume_files::{
     Disk, DiskFault, Entry, Files, Heading, Plan, ShowStop, Sink, TableStop, disk_fault,
     show_files, write_all, write_tables,
 };
-
-// Room for the sections of most histories: 20 bytes an entry, some more than a load or a store prints. A longer text takes more as it grows.
-fn room_for_text(history: &[Entry]) -> usize
-    requires { length history.now < 2 ^ 32 }
-{
-    20 * history.len()
-}
-
-// Writes the text between the opening part of a trace and the files.
-fn write_middle<K: Sink>(
-    alloc: Global,
-    options: &Options,
-    plan: &Plan,
-    history: &[Entry],
-    out: &mut K,
-) -> Result<(), Ending>
-    requires few { length history.now < 2 ^ 32 }
-    requires few_blocks { length plan.now.parents < 2 ^ 31 }
-    requires well_formed { All (λ e. IsWellFormed e.call) history.now }
-    // The whole text, or why not.
-    ensures ok { OnOk result (Wrote (K.seen out.old) (K.seen out.new)
-        (middle_text options.now plan.now history.now)) }
-    ensures stop { IfErr result (MiddleStops (middle_text options.now plan.now history.now)
-        (K.seen out.old) (K.seen out.new)) }
-    ensures later { (K.seen out.old).faults ≤ (K.seen out.new).faults }
-    ensures steady { UnlessEnded result ((K.seen out.new).faults ≡ (K.seen out.old).faults) }
-{
-    let Ok(mut text) = Vec::with_capacity(alloc, room_for_text(history)) else {
-        return Err(Ending::Memory);
-    };
-    if middle(options, plan, history, &mut text).is_err() {
-        return Err(Ending::Memory);
-    }
-    match write_all(out, &text) {
-        Ok(()) => Ok(()),
-        Err(_) => Err(Ending::Sink),
-    }
-}
 
 // The text of a run whose files weren't closed.
 fn closing_text(
