@@ -1,4 +1,5 @@
 pub mod DiskLists
+pub mod NumbersDiffer
 pub mod FaultCauses
 pub mod DiskCounts
 pub mod WrittenTexts

@@ -1,4 +1,4 @@
-use Rattle.std.proofs.Common.{◌∙◌, List, [], ◌++◌, ap, refl, sym}
+use Rattle.std.proofs.Common.{◌∙◌, [], ◌++◌, ap, refl, sym}
 use Rattle.std.specs.List.{cons_option, flat_map}
 use Rattle.std.proofs.lemmas.Grind.{flat_map-append}
 use Rattle.volume_files.specs.Mounting.{specs_below}
