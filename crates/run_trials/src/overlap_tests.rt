@@ -6,7 +6,7 @@ use std::alloc::{AllocError, Global};
 use std::sync::Wait;
 use std::test::Fail;
 use std::thread::Threads;
-use vm_run::{JoinedDisk, Outcome};
+use vm_run::Outcome;
 
 // Each of two processes loads from a file on a disk of its own.
 const PAIR: &[u8] =
@@ -23,11 +23,8 @@ const PUSHED_REPORT: &[u8] =
     b"process 1\n5 map 0x00002000\n6 store ok\n7 map 0x00004000\n8 load 0x41\n9 exit ok\nfile a 1\n00000000 41\n";
 
 // Whether a transfer ended before what it waited for had begun.
-fn was_late(outcome: &Outcome<JoinedDisk<GatedDisk<'_>>>) -> bool {
-    outcome.disks.iter().any(|disk| match disk {
-        JoinedDisk::Plain(disk) => disk.was_late,
-        _ => true,
-    })
+fn was_late(outcome: &Outcome<GatedDisk<'_>>) -> bool {
+    outcome.disks.iter().any(|disk| disk.was_late)
 }
 
 // How a run over a rack of these gates ended, whether a transfer of it was late, and what it printed. The other disk's number is given.

@@ -7,7 +7,7 @@ use block_device::{
 use std::alloc::{AllocError, Global};
 use std::sync::Wait;
 use std::thread::Threads;
-use vm_run::{JoinedDisk, Outcome, RunFault, run, run_alone};
+use vm_run::{Outcome, RunFault, run, run_alone};
 use vm_types::Entry;
 
 /// The call of each outside that fails; 0 stands for none.
@@ -30,8 +30,8 @@ pub(crate) const NEVER: Fails = Fails {
     swap: 0,
 };
 
-/// What a run left: its status, the step of its fault, its text, its history, the blocks of the disks that came back, those of two that
-/// are joined one behind the other, and how many transfers the first, the second and the swap disk were asked for, reads and writes.
+/// What a run left: its status, the step of its fault, its text, its history, the blocks of the disks that came back, and how many
+/// transfers the first, the second and the swap disk were asked for, reads and writes.
 #[derive(Drop)]
 pub(crate) struct Left {
     pub(crate) status: u8,
@@ -90,44 +90,16 @@ fn blocks_of(alloc: Global, disks: &[MemDisk]) -> Result<Vec<Vec<Block>>, AllocE
     Ok(blocks)
 }
 
-// The disks that these stand for, one behind the other.
-fn members_of(alloc: Global, disks: Vec<JoinedDisk<MemDisk>>) -> Result<Vec<MemDisk>, AllocError> {
-    let mut members = Vec::new(alloc);
-    for disk in disks {
-        let (first, second) = disk.parts();
-        members.push(first)?;
-        if let Some(second) = second {
-            members.push(second)?;
-        }
-    }
-    Ok(members)
-}
-
-fn swap_transfers(swap: Option<JoinedDisk<MemDisk>>) -> (u64, u64) {
-    match swap {
-        Some(disk) => {
-            let (disk, _second) = disk.parts();
-            transfers(Some(&disk))
-        }
-        None => (0, 0),
-    }
-}
-
-fn left_of(
-    alloc: Global,
-    outcome: Outcome<JoinedDisk<MemDisk>>,
-    text: Vec<u8>,
-) -> Result<Left, AllocError> {
-    let members = members_of(alloc, outcome.disks)?;
+fn left_of(alloc: Global, outcome: Outcome<MemDisk>, text: Vec<u8>) -> Result<Left, AllocError> {
     Ok(Left {
         status: outcome.status,
         fault: step_of(&outcome.fault),
         text,
         entries: Vec::from_slice(alloc, outcome.history.entries())?,
-        disks: blocks_of(alloc, &members)?,
-        first: transfers(members.first()),
-        second: transfers(members.get(1)),
-        swap: swap_transfers(outcome.swap),
+        disks: blocks_of(alloc, &outcome.disks)?,
+        first: transfers(outcome.disks.first()),
+        second: transfers(outcome.disks.get(1)),
+        swap: transfers(outcome.swap.as_ref()),
     })
 }
 
@@ -139,7 +111,7 @@ pub(crate) fn run_over<R: Rack>(
     script: &[u8],
     fails: &Fails,
     rack: &mut R,
-) -> Result<(Outcome<JoinedDisk<R::D>>, Vec<u8>), AllocError> {
+) -> Result<(Outcome<R::D>, Vec<u8>), AllocError> {
     let words = words_of(alloc, words)?;
     let bytes = Vec::from_slice(alloc, script)?;
     let mut source = MemSource::new(bytes, 7, [fails.source].to_vec(alloc)?);

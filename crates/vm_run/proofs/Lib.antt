@@ -44,3 +44,7 @@ pub mod SparedLines
 pub mod KeptUnkept
 pub mod RisingNumbers
 pub mod KeptFronts
+pub mod MemberLists
+pub mod CameBack
+pub mod TextsTold
+pub mod RunsHanded

@@ -3,6 +3,8 @@ pub mod Asked
 pub mod TraceChecks
 pub mod OnDisks
 pub mod Run
+pub mod Members
+pub mod MemberRooms
 pub mod Played
 pub mod Course
 pub mod Reading

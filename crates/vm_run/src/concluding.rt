@@ -69,8 +69,12 @@ fn tell_ending<K: Sink>(alloc: Global, ending: Ending, out: &mut K) -> Ending
 /// Takes memory for the line, and none where there is no line. Time: that of the line.
 pub fn conclude<D: Disk, K: Sink>(alloc: Global, stop: Stop<D>, out: &mut K) -> Outcome<D>
     // Of whatever was given, and whatever the outside has seen.
-    ensures { (g : Given) (o : Outside) → HasStopped g (with_sink o (K.seen out.old)) D.seen stop
+    ensures ends { (g : Given) (o : Outside)
+        → HasStopped g (with_sink o (K.seen out.old)) D.seen stop
         → RunEnds g (with_sink o (K.seen out.new)) (end_of D.seen result) }
+    // What is handed back.
+    ensures disks { result.disks ≡ stop.disks }
+    ensures swap { result.swap ≡ stop.swap }
 {
     let Stop {
         ending,

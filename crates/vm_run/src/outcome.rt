@@ -21,7 +21,7 @@ pub struct Outcome<D: Disk> {
     /// The fault that the status 7 names.
     pub fault: Option<RunFault>,
     pub history: KernelHistory,
-    /// The disks that were attached, in rising number.
+    /// The disks that were attached, those of a joined disk among them, in rising number.
     pub disks: Vec<D>,
     /// The swap disk, where one was attached.
     pub swap: Option<D>,

@@ -2,23 +2,27 @@
 ghost use Rattle.std.specs.Prelude.{◌≡◌, Ok, map, string_bytes};
 ghost use Rattle.volume_files.specs.block_device.StreamSeen.{SourceSeen};
 ghost use Rattle.volume_files.specs.joined_disk.JoinedSeen.{joined_seen};
+ghost use Rattle.volume_files.specs.volume_disks.Singles.{single_seen};
 ghost use Rattle.vm_run.specs.Asked.{Given, WasAsked, given_of};
 ghost use Rattle.vm_run.specs.Course.{HasStopped, MayBeRun};
 ghost use Rattle.vm_run.specs.Ended.{end_of};
-ghost use Rattle.vm_run.specs.Run.{IsComplete, PrintsLegalTrace, RunEnds, outside_of};
+ghost use Rattle.vm_run.specs.Members.{WasRun};
+ghost use Rattle.vm_run.specs.Run.{outside_of};
 
 use crate::beginning::{Begun, begin_plan, finish_run};
 use crate::concluding::conclude;
-use crate::ending::Stop;
+use crate::ending::{Ending, Stop};
+use crate::members::{hand_members, take_rooms};
 use crate::outcome::Outcome;
 use crate::playing::play_blocks;
+use crate::ready::bare_stop;
 use crate::threadless::{ReadScript, run_alone};
 use command_line::Options;
 use std::alloc::Global;
 use std::sync::Wait;
 use std::thread::Threads;
 use trace_check::one_answer_law;
-use volume_files::{JoinedDisk, Plan, Rack, Sink, Source};
+use volume_files::{JoinedDisk, Plan, Rack, Single, Sink, Source};
 
 /// Runs a script: its disks are attached, its files placed, its processes run, its files closed, and its report written.
 pub fn run<T: Threads + Wait + Sync, S: Source, K: Sink, R: Rack>(
@@ -28,27 +32,14 @@ pub fn run<T: Threads + Wait + Sync, S: Source, K: Sink, R: Rack>(
     script: &mut S,
     out: &mut K,
     rack: &mut R,
-) -> Outcome<JoinedDisk<R::D>>
+) -> Outcome<R::D>
     // THE HEADLINE.
-    ensures ends { RunEnds
+    ensures { WasRun
         (given_of (map string_bytes words.now) (S.seen script.old) (R.seen rack.old))
         (outside_of (S.seen script.old) (S.seen script.new)
         (R.seen rack.old) (R.seen rack.new) (K.seen out.old) (K.seen out.new))
-        (end_of (joined_seen R.D.seen) result) }
-    // Nothing failed: the whole report, or want of memory.
-    ensures complete { IsComplete
-        (given_of (map string_bytes words.now) (S.seen script.old) (R.seen rack.old))
-        (outside_of (S.seen script.old) (S.seen script.new)
-        (R.seen rack.old) (R.seen rack.new) (K.seen out.old) (K.seen out.new))
-        (end_of (joined_seen R.D.seen) result) }
-    // With a trace and status 0, over disks that tell: it is one that a check answers as legal.
-    ensures traced { PrintsLegalTrace
-        (given_of (map string_bytes words.now) (S.seen script.old) (R.seen rack.old))
-        (outside_of (S.seen script.old) (S.seen script.new)
-        (R.seen rack.old) (R.seen rack.new) (K.seen out.old) (K.seen out.new))
-        (end_of (joined_seen R.D.seen) result) }
+        (end_of R.D.seen result) }
 {
-    one_answer_law();
     match run_alone(alloc, words, script, out, rack) {
         Ok(outcome) => outcome,
         Err(read) => run_on_threads(rt, alloc, read, out, rack),
@@ -63,17 +54,23 @@ pub fn run_on_threads<T: Threads + Wait + Sync, K: Sink, R: Rack>(
     read: ReadScript,
     out: &mut K,
     rack: &mut R,
-) -> Outcome<JoinedDisk<R::D>>
+) -> Outcome<R::D>
     // Of whatever words and source it came, where the source counted no fault.
     ensures { (g : Given) (before after : SourceSeen) → g.holds ≡ (R.seen rack.old).holds
         → WasAsked g (Ok read) → after.faults ≡ before.faults
-        → RunEnds g (outside_of before after
+        → WasRun g (outside_of before after
         (R.seen rack.old) (R.seen rack.new) (K.seen out.old) (K.seen out.new))
-        (end_of (joined_seen R.D.seen) result) }
+        (end_of R.D.seen result) }
 {
+    one_answer_law();
     let ReadScript { options, plan } = read;
-    let stop = run_blocks(rt, alloc, options, plan, out, rack);
-    conclude(alloc, stop, out)
+    match take_rooms(alloc, &plan) {
+        Ok(rooms) => {
+            let stop = run_blocks(rt, alloc, options, plan, out, rack);
+            hand_members(conclude(alloc, stop, out), rooms)
+        }
+        Err(_) => conclude(alloc, bare_stop(alloc, Ending::Memory), out),
+    }
 }
 
 // Runs the blocks of a plan on threads, up to the run's last line.
@@ -84,14 +81,14 @@ fn run_blocks<T: Threads + Wait + Sync, K: Sink, R: Rack>(
     plan: Plan,
     out: &mut K,
     rack: &mut R,
-) -> Stop<JoinedDisk<R::D>>
+) -> Stop<JoinedDisk<Single<R::D>>>
     requires may { MayBeRun (record { options = options; plan = plan }) }
     ensures { (g : Given) (before after : SourceSeen) → g.holds ≡ (R.seen rack.old).holds
         → WasAsked g (Ok (record { options = options; plan = plan }))
         → after.faults ≡ before.faults
         → HasStopped g (outside_of before after
         (R.seen rack.old) (R.seen rack.new) (K.seen out.old) (K.seen out.new))
-        (joined_seen R.D.seen) result }
+        (joined_seen (single_seen R.D.seen)) result }
 {
     match begin_plan(alloc, options, plan, out, rack) {
         Ok(

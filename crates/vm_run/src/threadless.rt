@@ -2,16 +2,19 @@
 ghost use Rattle.std.specs.Prelude.{◌≡◌, IfErr, IfOk, Ok, false, true, map, string_bytes};
 ghost use Rattle.volume_files.specs.block_device.StreamSeen.{SourceSeen};
 ghost use Rattle.volume_files.specs.joined_disk.JoinedSeen.{joined_seen};
+ghost use Rattle.volume_files.specs.volume_disks.Singles.{single_seen};
 ghost use Rattle.vm_run.specs.Alone as alone;
 ghost use Rattle.vm_run.specs.Asked.{Given, WasAsked, given_of};
 ghost use Rattle.vm_run.specs.Course.{HasStopped, MayBeRun};
 ghost use Rattle.vm_run.specs.Ended.{end_of};
-ghost use Rattle.vm_run.specs.Run.{IsComplete, PrintsLegalTrace, RunEnds, outside_of};
+ghost use Rattle.vm_run.specs.Members.{WasRun};
+ghost use Rattle.vm_run.specs.Run.{outside_of};
 
 use crate::beginning::{Begun, begin_plan, finish_run};
 use crate::checking::tell_answer;
 use crate::concluding::conclude;
-use crate::ending::Stop;
+use crate::ending::{Ending, Stop};
+use crate::members::{hand_members, take_rooms};
 use crate::outcome::Outcome;
 use crate::playing::play_alone;
 use crate::reading::{Request, ask, needs_no_thread};
@@ -20,7 +23,7 @@ use command_line::Options;
 use std::alloc::Global;
 use std::marker::Model;
 use trace_check::one_answer_law;
-use volume_files::{JoinedDisk, Plan, Rack, Sink, Source};
+use volume_files::{JoinedDisk, Plan, Rack, Single, Sink, Source};
 
 /// A script that was read, with what the words say. Contracts see what was asked.
 #[derive(Drop)]
@@ -47,7 +50,7 @@ fn run_block<K: Sink, R: Rack>(
     plan: Plan,
     out: &mut K,
     rack: &mut R,
-) -> Stop<JoinedDisk<R::D>>
+) -> Stop<JoinedDisk<Single<R::D>>>
     requires may { MayBeRun (record { options = options; plan = plan }) }
     requires alone { alone.is_alone plan ≡ true }
     ensures { (g : Given) (before after : SourceSeen) → g.holds ≡ (R.seen rack.old).holds
@@ -55,7 +58,7 @@ fn run_block<K: Sink, R: Rack>(
         → after.faults ≡ before.faults
         → HasStopped g (outside_of before after
         (R.seen rack.old) (R.seen rack.new) (K.seen out.old) (K.seen out.new))
-        (joined_seen R.D.seen) result }
+        (joined_seen (single_seen R.D.seen)) result }
 {
     match begin_plan(alloc, options, plan, out, rack) {
         Ok(
@@ -74,39 +77,30 @@ fn run_block<K: Sink, R: Rack>(
     }
 }
 
-// Runs a script up to its last line, where it needs no thread.
-fn course_alone<S: Source, K: Sink, R: Rack>(
+// Runs a plan of one block, and hands back the disks.
+fn run_whole<K: Sink, R: Rack>(
     alloc: Global,
-    words: &[String],
-    script: &mut S,
+    options: Options,
+    plan: Plan,
     out: &mut K,
     rack: &mut R,
-) -> Result<Stop<JoinedDisk<R::D>>, ReadScript>
-    ensures stopped { IfOk result (HasStopped
-        (given_of (map string_bytes words.now) (S.seen script.old) (R.seen rack.old))
-        (outside_of (S.seen script.old) (S.seen script.new)
+) -> Outcome<R::D>
+    requires may { MayBeRun (record { options = options; plan = plan }) }
+    requires alone { alone.is_alone plan ≡ true }
+    ensures { (g : Given) (before after : SourceSeen) → g.holds ≡ (R.seen rack.old).holds
+        → WasAsked g (Ok (record { options = options; plan = plan }))
+        → after.faults ≡ before.faults
+        → WasRun g (outside_of before after
         (R.seen rack.old) (R.seen rack.new) (K.seen out.old) (K.seen out.new))
-        (joined_seen R.D.seen)) }
-    // A script that needs threads was read, and nothing else was done.
-    ensures asked { IfErr result (λ read. WasAsked
-        (given_of (map string_bytes words.now) (S.seen script.old) (R.seen rack.old))
-        (Ok read)) }
-    ensures threads { IfErr result (λ read. alone.needs_no_thread read ≡ false) }
-    ensures source { IfErr result (λ _.
-        (S.seen script.new).faults ≡ (S.seen script.old).faults) }
-    ensures sink { IfErr result (λ _. K.seen out.new ≡ K.seen out.old) }
-    ensures rack { IfErr result (λ _. R.seen rack.new ≡ R.seen rack.old) }
+        (end_of R.D.seen result) }
 {
-    match ask(alloc, words, script) {
-        Ok(Request::Run(options, plan)) => {
-            if needs_no_thread(&options, &plan) {
-                Ok(run_block(alloc, options, plan, out, rack))
-            } else {
-                Err(ReadScript { options, plan })
-            }
+    one_answer_law();
+    match take_rooms(alloc, &plan) {
+        Ok(rooms) => {
+            let stop = run_block(alloc, options, plan, out, rack);
+            hand_members(conclude(alloc, stop, out), rooms)
         }
-        Ok(Request::Check(answer)) => Ok(bare_stop(alloc, tell_answer(alloc, answer, out))),
-        Err(ending) => Ok(bare_stop(alloc, ending)),
+        Err(_) => conclude(alloc, bare_stop(alloc, Ending::Memory), out),
     }
 }
 
@@ -121,23 +115,13 @@ pub fn run_alone<S: Source, K: Sink, R: Rack>(
     script: &mut S,
     out: &mut K,
     rack: &mut R,
-) -> Result<Outcome<JoinedDisk<R::D>>, ReadScript>
+) -> Result<Outcome<R::D>, ReadScript>
     // The run, of which the same is said as of `run`.
-    ensures ends { IfOk result (λ outcome. RunEnds
+    ensures ends { IfOk result (λ outcome. WasRun
         (given_of (map string_bytes words.now) (S.seen script.old) (R.seen rack.old))
         (outside_of (S.seen script.old) (S.seen script.new)
         (R.seen rack.old) (R.seen rack.new) (K.seen out.old) (K.seen out.new))
-        (end_of (joined_seen R.D.seen) outcome)) }
-    ensures complete { IfOk result (λ outcome. IsComplete
-        (given_of (map string_bytes words.now) (S.seen script.old) (R.seen rack.old))
-        (outside_of (S.seen script.old) (S.seen script.new)
-        (R.seen rack.old) (R.seen rack.new) (K.seen out.old) (K.seen out.new))
-        (end_of (joined_seen R.D.seen) outcome)) }
-    ensures traced { IfOk result (λ outcome. PrintsLegalTrace
-        (given_of (map string_bytes words.now) (S.seen script.old) (R.seen rack.old))
-        (outside_of (S.seen script.old) (S.seen script.new)
-        (R.seen rack.old) (R.seen rack.new) (K.seen out.old) (K.seen out.new))
-        (end_of (joined_seen R.D.seen) outcome)) }
+        (end_of R.D.seen outcome)) }
 
     // A script that was asked for and needs threads. It was read, and nothing else was done.
     ensures asked { IfErr result (λ read. WasAsked
@@ -150,8 +134,18 @@ pub fn run_alone<S: Source, K: Sink, R: Rack>(
     ensures rack { IfErr result (λ _. R.seen rack.new ≡ R.seen rack.old) }
 {
     one_answer_law();
-    match course_alone(alloc, words, script, out, rack) {
-        Ok(stop) => Ok(conclude(alloc, stop, out)),
-        Err(read) => Err(read),
+    match ask(alloc, words, script) {
+        Ok(Request::Run(options, plan)) => {
+            if needs_no_thread(&options, &plan) {
+                Ok(run_whole(alloc, options, plan, out, rack))
+            } else {
+                Err(ReadScript { options, plan })
+            }
+        }
+        Ok(Request::Check(answer)) => {
+            let ending = tell_answer(alloc, answer, out);
+            Ok(conclude(alloc, bare_stop(alloc, ending), out))
+        }
+        Err(ending) => Ok(conclude(alloc, bare_stop(alloc, ending), out)),
     }
 }

@@ -70,7 +70,8 @@ fn attach_plain<R: Rack, P: Pairing<Single<R::D>>>(
 ) -> Result<Unopened<P>, Unattached<Single<R::D>>>
     ensures ok { IfOk result (IsVolume (single_seen R.D.seen) P.pairs (R.seen rack.old).holds
         (VolumeSpec.Plain spec.now)) }
-    ensures err { IfErr result (StopsVolume (single_seen R.D.seen) (R.seen rack.old) (R.seen rack.new)
+    ensures err { IfErr result (StopsVolume (single_seen R.D.seen)
+        (R.seen rack.old) (R.seen rack.new)
         (VolumeSpec.Plain spec.now)) }
     // Each disk that the rack attached is there, or is handed back.
     ensures counted { OnOk result
@@ -104,7 +105,8 @@ fn attach_joined<R: Rack, P: Pairing<Single<R::D>>>(
     requires { spec_number second.now ≢ spec_number first.now }
     ensures ok { IfOk result (IsVolume (single_seen R.D.seen) P.pairs (R.seen rack.old).holds
         (VolumeSpec.Joined first.now second.now mirror)) }
-    ensures err { IfErr result (StopsVolume (single_seen R.D.seen) (R.seen rack.old) (R.seen rack.new)
+    ensures err { IfErr result (StopsVolume (single_seen R.D.seen)
+        (R.seen rack.old) (R.seen rack.new)
         (VolumeSpec.Joined first.now second.now mirror)) }
     // Each disk that the rack attached is there, or is handed back.
     ensures counted { OnOk result
@@ -157,7 +159,8 @@ pub fn attach_volume<R: Rack, P: Pairing<Single<R::D>>>(
     volume: &VolumeSpec,
 ) -> Result<Unopened<P>, Unattached<Single<R::D>>>
     requires { HasTwoNumbers volume.now }
-    ensures ok { IfOk result (IsVolume (single_seen R.D.seen) P.pairs (R.seen rack.old).holds volume.now) }
+    ensures ok { IfOk result
+        (IsVolume (single_seen R.D.seen) P.pairs (R.seen rack.old).holds volume.now) }
     ensures err { IfErr result
         (StopsVolume (single_seen R.D.seen) (R.seen rack.old) (R.seen rack.new) volume.now) }
     // Each disk that the rack attached is there, or is handed back.

@@ -3,8 +3,8 @@ use Rattle.std.specs.Prelude.{option_map}
 use Rattle.vm_run.proofs.LastLines.{ends-so}
 use Rattle.vm_run.proofs.concluding.conclude.Goals as goal
 
-pub returns : goal.returns
-returns g c = λ given o stopped.
+pub returns-clause-ends : goal.returns-clause-ends
+returns-clause-ends g c = λ given o stopped.
     let seen = g.D.Disk.seen in
     let how = c.tell_ending-ending.ensures.told in
     let stop = c.args.stop in
