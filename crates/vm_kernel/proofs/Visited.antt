@@ -335,11 +335,6 @@ hand-for None o p call is hand for' = absurd (let z : false ≡ true = is in cc 
 hand-for (Some x) None p call is hand for' = absurd hand
 hand-for (Some x) (Some n) p call is hand for' = for'
 
-pub sent-for : {D : Type 0} (x : SentFlight D) (sent : Option (SentFlight D)) (o : Option Sent) (p : ℕ) (call : Call) → sent ≡ Some x → InHand sent o → IsNoteFor p call o → IsSentFor x (Some (p, call))
-sent-for x None o p call is hand for' = absurd (cc (is))
-sent-for x (Some y) None p call is hand for' = absurd hand
-sent-for x (Some y) (Some n) p call is hand for' = let same = sym for' ∙ hand.same in cc (same, is)
-
 pub sent-for-none : {D : Type 0} (x : SentFlight D) (sent : Option (SentFlight D)) (o : Option Sent) → sent ≡ Some x → InHand sent o → IsForNone o → IsSentFor x None
 sent-for-none x None o is hand for' = absurd (cc (is))
 sent-for-none x (Some y) None is hand for' = absurd hand

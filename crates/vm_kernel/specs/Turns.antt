@@ -164,9 +164,9 @@ turn_of_ended ended.Moved = Again Moved
 turn_of_ended ended.Held = Again LockHeld
 
 -- Inside: what a call has come to: it is done, with this reply, or there is no entry yet.
-abbrev pub IsAnswered : CallerSeen → Call → CallerSeen → Option Reply → Type 0
-IsAnswered c call d (Some r) = IsCallDone c call d r
-IsAnswered c call d None = (d.seat.own ≡ c.seat.own) × IsForCall c.process call d.seat.note
+abbrev pub HasComeTo : CallerSeen → Call → CallerSeen → Option Reply → Type 0
+HasComeTo c call d (Some r) = IsCallDone c call d r
+HasComeTo c call d None = (d.seat.own ≡ c.seat.own) × IsForCall c.process call d.seat.note
 
 -- Inside: what one try of a load or a store comes to: it is done, or there is no entry yet.
 abbrev pub quick_of : Answer → Quick

@@ -2,7 +2,7 @@
 ghost use Rattle.std.specs.Prelude.{◌≡◌, ◌≢◌, ◌≤◌, ℕ, None, IfOk, OnErr};
 ghost use mathlib.Core.List.{IsPrefix};
 ghost use Rattle.vm_kernel.specs.Callers.{IsCallerOf};
-ghost use Rattle.vm_kernel.specs.Turns.{MayCall, CallerGoesOn, MovesHands, IsQuick, IsTurn, IsCallDone, LacksMemory, HasSeenMore, IsAnswered, turn_of_ended};
+ghost use Rattle.vm_kernel.specs.Turns.{MayCall, CallerGoesOn, MovesHands, IsQuick, IsTurn, IsCallDone, LacksMemory, HasSeenMore, HasComeTo, turn_of_ended};
 
 use crate::boxed::BoxedState;
 use crate::caller::Caller;
@@ -152,6 +152,7 @@ impl<D: Disk> VmKernel<D> {
         requires caller { IsCallerOf self.now caller.old }
         requires may { MayCall self.now caller.old call.now }
         requires out { caller.old.seat.note ≢ None }
+        // The caller goes on, and what the turn comes to.
         ensures caller { IsCallerOf self.now caller.new }
         ensures goes { CallerGoesOn caller.old caller.new }
         ensures turn { IsTurn caller.old call.now caller.new (turn_of_ended result) }
@@ -182,9 +183,10 @@ impl<D: Disk> VmKernel<D> {
         requires caller { IsCallerOf self.now caller.old }
         requires may { MayCall self.now caller.old call.now }
         requires none { reply.old ≡ None }
+        // The caller goes on; and what the call has come to, or that memory lacked.
         ensures caller { IsCallerOf self.now caller.new }
         ensures goes { CallerGoesOn caller.old caller.new }
-        ensures turn { IfOk result (λ done. IsAnswered caller.old call.now caller.new reply.new) }
+        ensures turn { IfOk result (λ done. HasComeTo caller.old call.now caller.new reply.new) }
         ensures err { OnErr result (LacksMemory caller.old call.now caller.new) }
     {
         match self.turn_and_rest(rt, caller, call)? {
@@ -208,9 +210,10 @@ impl<D: Disk> VmKernel<D> {
         requires caller { IsCallerOf self.now caller.old }
         requires may { MayCall self.now caller.old call.now }
         requires none { reply.old ≡ None }
+        // The caller goes on; and what the call has come to, or that memory lacked.
         ensures caller { IsCallerOf self.now caller.new }
         ensures goes { CallerGoesOn caller.old caller.new }
-        ensures turn { IfOk result (λ done. IsAnswered caller.old call.now caller.new reply.new) }
+        ensures turn { IfOk result (λ done. HasComeTo caller.old call.now caller.new reply.new) }
         ensures err { OnErr result (LacksMemory caller.old call.now caller.new) }
     {
         if caller.is_free() {

@@ -1,5 +1,5 @@
 use Rattle.std.proofs.Common.{refl, subst}
-use Rattle.vm_kernel.specs.Turns.{IsQuick, IsAnswered}
+use Rattle.vm_kernel.specs.Turns.{IsQuick, HasComeTo}
 use Rattle.vm_kernel.proofs.Calling.{Unanswered, done-since, goes-both, goes-not, may-still, unanswered-on}
 use Rattle.vm_kernel.proofs.kernel.VmKernel.call_by_turns.Given.{Over}
 use Rattle.vm_kernel.proofs.kernel.VmKernel.call_by_turns.Goals as goal
@@ -14,12 +14,12 @@ go_on-requires-clause-may g c = may-still c.args.self.now c.args.caller.now c.lo
 pub returns-in-Some-reply-clause-done : goal.returns-in-Some-reply-clause-done
 returns-in-Some-reply-clause-done g c =
     done-since c.args.caller.now c.loop.caller c.go_on.new.caller c.args.call.now c.loop.invariant.1 c.go_on.ensures.goes c.loop.invariant.2 c.in-Some-reply.reply
-    (subst (IsAnswered c.loop.caller c.args.call.now c.go_on.new.caller) c.in-Some-reply.is c.in_ok-go_on.ensures.turn)
+    (subst (HasComeTo c.loop.caller c.args.call.now c.go_on.new.caller) c.in-Some-reply.is c.in_ok-go_on.ensures.turn)
 
 -- behind a turn that has no reply
 again : (g : Over) (c : In-None-reply g) → Unanswered c.args.caller.now c.args.call.now c.go_on.new.caller
 again g c =
-    let turn = subst (IsAnswered c.loop.caller c.args.call.now c.go_on.new.caller) c.in-None-reply.is c.in_ok-go_on.ensures.turn in
+    let turn = subst (HasComeTo c.loop.caller c.args.call.now c.go_on.new.caller) c.in-None-reply.is c.in_ok-go_on.ensures.turn in
     unanswered-on c.args.caller.now c.loop.caller c.go_on.new.caller c.args.call.now (record { goes = c.loop.invariant.1; own = c.loop.invariant.2; hand = c.loop.invariant.3 })
     c.go_on.ensures.goes turn.0 turn.1
 

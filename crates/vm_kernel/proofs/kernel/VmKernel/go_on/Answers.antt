@@ -1,5 +1,5 @@
 use Rattle.std.proofs.Common.{sym, subst}
-use Rattle.vm_kernel.specs.Turns.{IsAnswered, IsTurn, turn_of_ended}
+use Rattle.vm_kernel.specs.Turns.{HasComeTo, IsTurn, turn_of_ended}
 use Rattle.vm_kernel.proofs.kernel.VmKernel.go_on.Goals as goal
 
 pub returns-in-Failed-clause-turn : goal.returns-in-Failed-clause-turn
@@ -8,9 +8,9 @@ returns-in-Failed-clause-turn g c = subst (λ e. IsTurn c.args.caller.now c.args
 pub returns-in-Moved-clause-turn : goal.returns-in-Moved-clause-turn
 returns-in-Moved-clause-turn g c =
     let turn = subst (λ e. IsTurn c.args.caller.now c.args.call.now c.end_and_rest.new.caller (turn_of_ended e)) c.in-Moved.is c.end_and_rest.ensures.turn in
-    subst (IsAnswered c.args.caller.now c.args.call.now c.end_and_rest.new.caller) (sym c.requires.none) (turn.0, turn.1)
+    subst (HasComeTo c.args.caller.now c.args.call.now c.end_and_rest.new.caller) (sym c.requires.none) (turn.0, turn.1)
 
 pub returns-in-Held-clause-turn : goal.returns-in-Held-clause-turn
 returns-in-Held-clause-turn g c =
     let turn = subst (λ e. IsTurn c.args.caller.now c.args.call.now c.end_and_rest.new.caller (turn_of_ended e)) c.in-Held.is c.end_and_rest.ensures.turn in
-    subst (IsAnswered c.args.caller.now c.args.call.now c.end_and_rest.new.caller) (sym c.requires.none) (turn.0, turn.1)
+    subst (HasComeTo c.args.caller.now c.args.call.now c.end_and_rest.new.caller) (sym c.requires.none) (turn.0, turn.1)
