@@ -1,5 +1,5 @@
 //! The state that stands behind the lock, in a box, since the lock moves what it keeps several times a visit.
-ghost use Rattle.std.specs.Prelude.{◌≡◌, ◌<◌, ℕ, Some, None, length, option_map};
+ghost use Rattle.std.specs.Prelude.{◌≡◌, ◌<◌, ℕ, Some, None, IfSome, IfNone, length, option_map};
 ghost use Rattle.vm_core.specs.Fits.{FitsAt};
 ghost use Rattle.vm_core.specs.vm_types.WellFormed.{IsWellFormed};
 ghost use Rattle.vm_core.specs.vm_world.Events.{IsEvent, CanTry};
@@ -82,6 +82,21 @@ impl<D: Disk> BoxedState<D> {
         ensures ready { AreUnperformed sent.new }
     {
         steps::try_and_begin(&mut self.state, seat, process, call, sent)
+    }
+
+    /// Tries a load or a store that is a hit; none where it is no hit, and nothing has changed then.
+    #[inline(always)]
+    pub(crate) fn try_hit(&mut self, seat: u32, process: u32, call: &Call) -> Option<Answer>
+        requires access { IsAccess call.now }
+        requires fits { FitsAt self.old seat None }
+        requires may { CanTry self.old seat process call.now }
+        // One event, as of any call that is tried.
+        ensures event { IfSome result (λ _answer. IsEvent seat self.old None self.new None) }
+        ensures tries { IfSome result (TriesAccess self.old self.new process call.now None) }
+        // No hit.
+        ensures none { IfNone result (self.new ≡ self.old) }
+    {
+        self.state.try_hit(seat, process, call)
     }
 
     /// Tries a load or a store, and begins the transfer that it needs.

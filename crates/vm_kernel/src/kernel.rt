@@ -7,6 +7,7 @@ ghost use Rattle.vm_kernel.specs.Turns.{MayCall, CallerGoesOn, MovesHands, IsQui
 use crate::boxed::BoxedState;
 use crate::caller::Caller;
 use crate::halves::{access_at, end_at, move_at, turn_at};
+use crate::hits::hit_at;
 use crate::turn::{Ended, Quick, Turn, Why};
 use kernel_lock::lock::KernelLock;
 use std::alloc::AllocError;
@@ -103,12 +104,31 @@ impl<D: Disk> VmKernel<D> {
         ensures done { IfOk result (λ reply. IsCallDone caller.old call.now caller.new reply) }
         ensures err { OnErr result (LacksMemory caller.old call.now caller.new) }
     {
-        match self.access(caller, call) {
+        match self.hit(caller, call) {
             Quick::Word(word) => Ok(Reply::Word(word)),
             Quick::Stored => Ok(Reply::Done),
             Quick::Signal(signal) => Ok(Reply::Signal(signal)),
-            Quick::Later => self.call_by_turns(rt, caller, call),
+            Quick::Later => self.by_turns(rt, caller, call),
         }
+    }
+
+    // Inline, so that a hit's code doesn't clear the room for what turns answer.
+    #[inline(always)]
+    fn by_turns<R: Wait>(
+        &self,
+        rt: &R,
+        caller: &mut Caller<D>,
+        call: &Call,
+    ) -> Result<Reply, AllocError>
+        requires caller { IsCallerOf self.now caller.old }
+        requires may { MayCall self.now caller.old call.now }
+        // The caller goes on. Its call is done by exactly one entry more, or wants memory.
+        ensures caller { IsCallerOf self.now caller.new }
+        ensures goes { CallerGoesOn caller.old caller.new }
+        ensures done { IfOk result (λ reply. IsCallDone caller.old call.now caller.new reply) }
+        ensures err { OnErr result (LacksMemory caller.old call.now caller.new) }
+    {
+        self.call_by_turns(rt, caller, call)
     }
 
     // One try, where the call is a load or a store and nothing is in hand.
@@ -132,6 +152,39 @@ impl<D: Disk> VmKernel<D> {
             }
         }
         self.untried(caller, call)
+    }
+
+    // The same, but that a hit is looked for first. Each kind has an arm, so that a hit's code looks at it once.
+    #[inline(always)]
+    fn hit(&self, caller: &mut Caller<D>, call: &Call) -> Quick
+        requires caller { IsCallerOf self.now caller.old }
+        requires may { MayCall self.now caller.old call.now }
+        ensures caller { IsCallerOf self.now caller.new }
+        ensures goes { CallerGoesOn caller.old caller.new }
+        ensures quick { IsQuick caller.old call.now caller.new result }
+    {
+        if caller.sent.is_some() {
+            return self.untried(caller, call);
+        }
+        match *call {
+            Call::Load { addr, size } => hit_at(
+                &self.lock,
+                &mut caller.seat,
+                caller.process,
+                &mut caller.sent,
+                &Call::Load { addr, size },
+                call,
+            ),
+            Call::Store { addr, size, value } => hit_at(
+                &self.lock,
+                &mut caller.seat,
+                caller.process,
+                &mut caller.sent,
+                &Call::Store { addr, size, value },
+                call,
+            ),
+            _ => self.untried(caller, call),
+        }
     }
 
     // A call that wasn't tried has no reply yet, and its caller is as it was.

@@ -6,6 +6,7 @@ mod boxed;
 pub mod caller;
 mod closing;
 mod halves;
+mod hits;
 pub mod kernel;
 mod sent;
 pub mod starting;

@@ -3,20 +3,20 @@ use Rattle.vm_kernel.specs.Turns.{IsQuick}
 use Rattle.vm_kernel.proofs.Calling.{call-done-since, call-lacks-since, goes-both, may-still}
 use Rattle.vm_kernel.proofs.kernel.VmKernel.call.Goals as goal
 
-pub call_by_turns-requires-clause-may : goal.call_by_turns-requires-clause-may
-call_by_turns-requires-clause-may g c =
-    let later = subst (IsQuick c.args.caller.now c.args.call.now c.access.new.caller) c.in-Later.is c.access.ensures.quick in
-    may-still c.args.self.now c.args.caller.now c.access.new.caller c.args.call.now c.requires.may c.access.ensures.goes later.0 later.1
+pub by_turns-requires-clause-may : goal.by_turns-requires-clause-may
+by_turns-requires-clause-may g c =
+    let later = subst (IsQuick c.args.caller.now c.args.call.now c.hit.new.caller) c.in-Later.is c.hit.ensures.quick in
+    may-still c.args.self.now c.args.caller.now c.hit.new.caller c.args.call.now c.requires.may c.hit.ensures.goes later.0 later.1
 
 pub returns-in-Later-clause-goes : goal.returns-in-Later-clause-goes
-returns-in-Later-clause-goes g c = goes-both c.args.caller.now c.access.new.caller c.call_by_turns.new.caller c.access.ensures.goes c.call_by_turns.ensures.goes
+returns-in-Later-clause-goes g c = goes-both c.args.caller.now c.hit.new.caller c.by_turns.new.caller c.hit.ensures.goes c.by_turns.ensures.goes
 
 pub returns-in-Later-clause-done : goal.returns-in-Later-clause-done
 returns-in-Later-clause-done g c =
-    let later = subst (IsQuick c.args.caller.now c.args.call.now c.access.new.caller) c.in-Later.is c.access.ensures.quick in
-    call-done-since c.args.caller.now c.access.new.caller c.call_by_turns.new.caller c.args.call.now c.access.ensures.goes c.call_by_turns.ensures.goes later.0 c.call_by_turns.result c.call_by_turns.ensures.done
+    let later = subst (IsQuick c.args.caller.now c.args.call.now c.hit.new.caller) c.in-Later.is c.hit.ensures.quick in
+    call-done-since c.args.caller.now c.hit.new.caller c.by_turns.new.caller c.args.call.now c.hit.ensures.goes c.by_turns.ensures.goes later.0 c.by_turns.result c.by_turns.ensures.done
 
 pub returns-in-Later-clause-err : goal.returns-in-Later-clause-err
 returns-in-Later-clause-err g c =
-    let later = subst (IsQuick c.args.caller.now c.args.call.now c.access.new.caller) c.in-Later.is c.access.ensures.quick in
-    call-lacks-since c.args.caller.now c.access.new.caller c.call_by_turns.new.caller c.args.call.now c.access.ensures.goes c.call_by_turns.ensures.goes later.0 c.call_by_turns.result c.call_by_turns.ensures.err
+    let later = subst (IsQuick c.args.caller.now c.args.call.now c.hit.new.caller) c.in-Later.is c.hit.ensures.quick in
+    call-lacks-since c.args.caller.now c.hit.new.caller c.by_turns.new.caller c.args.call.now c.hit.ensures.goes c.by_turns.ensures.goes later.0 c.by_turns.result c.by_turns.ensures.err
