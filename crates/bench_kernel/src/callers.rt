@@ -28,7 +28,8 @@ fn map_page() -> Call
     }
 }
 
-// A call, to its end, of a caller that may make so many.
+// A call, to its end, of a caller that may make so many. Inline, since what is timed is the call.
+#[inline(always)]
 fn make<R: Wait>(
     rt: &R,
     kernel: &VmKernel<MemDisk>,
