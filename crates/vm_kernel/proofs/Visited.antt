@@ -1,5 +1,5 @@
 -- What a visit leaves of a seat.
-use Rattle.std.proofs.Common.{◌≡◌, ℕ, suc, ◌<◌, ◌≤◌, ◌+◌, ◌^◌, true, false, List, [], ◌∷◌, ◌++◌, Option, Some, None, Result, Ok, Err, refl, ap, sym, ◌∙◌, subst, arith, if◌then◌else◌, eqb, eq-eqb, le_refl, ◌⊎◌}
+use Rattle.std.proofs.Common.{◌≡◌, ℕ, suc, ◌<◌, ◌≤◌, ◌+◌, ◌^◌, true, false, List, [], ◌∷◌, ◌++◌, Option, Some, None, Result, Ok, Err, refl, ap, sym, ◌∙◌, subst, arith, if◌then◌else◌, eqb, eq-eqb, le_refl, ◌⊎◌, inl, inr}
 use Rattle.std.specs.Prelude.{All, IfSome, IsFalse, IsTrue, is_some}
 use Rattle.std.proofs.lemmas.List.{append-nil}
 use Rattle.std.proofs.lemmas.List.Elements.{filter-append, All-nil, All-cons}
@@ -21,7 +21,7 @@ use Rattle.vm_kernel.specs.Callers.{SeatSeen, CallerSeen, IsIdle}
 use Rattle.vm_kernel.specs.Notes.{InHand, IsSentFor}
 use Rattle.vm_kernel.specs.Since.{seat_of_entry, history_of, IsSinceOpening}
 use Rattle.vm_kernel.specs.Steps.{IsNoteFor, IsForNone, tried_of}
-use Rattle.vm_kernel.specs.Turns.{CallerGoesOn, MovesHands, IsQuick, IsTurn, IsFirstHalf, IsCallDone, LacksMemory, HasMet, HasCauseFor, ShowsError, IsForCall, caller_at, quick_of, turn_of_try, turn_of_end, why_of}
+use Rattle.vm_kernel.specs.Turns.{CallerGoesOn, TriesOnce, IsOneTurn, MovesHands, IsQuick, IsTurn, IsFirstHalf, IsCallDone, LacksMemory, HasMet, HasCauseFor, ShowsError, IsForCall, caller_at, quick_of, turn_of_try, turn_of_end, why_of}
 use Rattle.vm_kernel.specs.Visits.{GoesOut, LeavesTry, LeavesEnd, LeavesHand, Visit}
 use Rattle.vm_kernel.specs.declared.sent.SentFlight.{SentFlight}
 use Rattle.vm_kernel.specs.declared.turn.Turn.{Turn}
@@ -372,12 +372,12 @@ module _ (opening : KernelState) (n : ℕ) (c b d : SeatSeen) (s : KernelState) 
   landed-comes note (Some r) of (t, out, ends) = absurd (let z : ◌≡◌ {A = Option (ℕ × Call)} None (Some ends.0) = sym of ∙ ends.1 in cc (z))
 
 -- a note that wasn't there isn't emptied
-none-emptied : (n m : Option Sent) (k : ℕ) → n ≡ None → (if empties n m then k + 1 else k) ≡ k
+pub none-emptied : (n m : Option Sent) (k : ℕ) → n ≡ None → (if empties n m then k + 1 else k) ≡ k
 none-emptied None m k is = refl
 none-emptied (Some x) m k is = absurd (cc (is))
 
 -- one that was is
-one-emptied : (n : Option Sent) (note : Sent) (k : ℕ) → n ≡ Some note → (if empties n None then k + 1 else k) ≡ k + 1
+pub one-emptied : (n : Option Sent) (note : Sent) (k : ℕ) → n ≡ Some note → (if empties n None then k + 1 else k) ≡ k + 1
 one-emptied None note k is = absurd (cc (is))
 one-emptied (Some x) note k is = refl
 
@@ -406,6 +406,18 @@ moved-on c m d i a b first then' = record {
 pub in-hand : {D : Type 0} (x : SentFlight D) (o : Option Sent) → InHand (Some x) o → (note : Sent) × (o ≡ Some note) × InHand (Some x) (Some note)
 in-hand x None hand = absurd hand
 in-hand x (Some note) hand = (note, refl, hand)
+
+-- A turn whose try began a transfer, and then tried the lock again.
+pub tried-round : (c m d : CallerSeen) (call : Call) → c.seat.note ≡ None → TriesOnce c m → m.seat.emptied ≡ c.seat.emptied → IsNoteFor c.process call m.seat.note
+    → TriesOnce m d → (d.seat.emptied ≡ m.seat.emptied + 1) ⊎ (d.seat.note ≡ m.seat.note) → IsOneTurn c d
+tried-round c m d call none first same for' second ended = inr (record {
+  none = none;
+  tries = omega (arith, first, second);
+  transfer = elim ended [
+    | inl more ↦ inl (more ∙ ap (λ (k : ℕ). k + 1) same)
+    | inr kept ↦ inr (ap is_some (kept ∙ (note-for c.process call m.seat.note for').1))
+  ];
+})
 
 -- the seat that went in
 pub tried-number : (c b : SeatSeen) (s : KernelState) → HasTried (after_enter c s) b → b.number ≡ c.number

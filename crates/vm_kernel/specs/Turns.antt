@@ -1,5 +1,5 @@
 -- What a caller may ask of a turn, and what a turn comes to. Public clauses cite this.
-use Rattle.std.specs.Prelude.{◌≡◌, ◌≢◌, ◌<◌, ◌≤◌, ◌+◌, ◌++◌, ◌∷◌, [], ℕ, Bool, Option, Some, None, Result, Ok, Err}
+use Rattle.std.specs.Prelude.{◌≡◌, ◌≢◌, ◌⊎◌, ◌<◌, ◌≤◌, ◌+◌, IsSome, ◌++◌, ◌∷◌, [], ℕ, Bool, Option, Some, None, Result, Ok, Err}
 use Rattle.std.specs.Bool.{MatchBool}
 use mathlib.Core.List.{IsPrefix}
 use Rattle.vm_core.specs.block_device.Counts.{HasRisen}
@@ -53,6 +53,23 @@ pub record CallerGoesOn (c d : CallerSeen) : Type 0 where
   pub refused : c.seat.refused ≤ d.seat.refused
   pub leaves : c.seat.leaves ≤ d.seat.leaves
   pub emptied : c.seat.emptied ≤ d.seat.emptied
+
+-- How often a caller tried the lock: each time it was refused, or went in and left.
+abbrev pub lock_tries : CallerSeen → ℕ
+lock_tries c = c.seat.leaves + c.seat.refused
+
+abbrev pub TriesOnce : CallerSeen → CallerSeen → Type 0
+TriesOnce c d = lock_tries d ≡ lock_tries c + 1
+
+-- It tried the lock twice round a transfer, which was brought home by the second try, or is in hand.
+pub record TriesRound (c d : CallerSeen) : Type 0 where
+  pub none : c.seat.note ≡ None
+  pub tries : lock_tries d ≡ lock_tries c + 2
+  pub transfer : (d.seat.emptied ≡ c.seat.emptied + 1) ⊎ IsSome d.seat.note
+
+-- ONE TURN: one try of the lock, or two round a transfer.
+abbrev pub IsOneTurn : CallerSeen → CallerSeen → Type 0
+IsOneTurn c d = TriesOnce c d ⊎ TriesRound c d
 
 -- So many moves of a hand of the clock were made, and so many pushes that they began came home: the caller left the lock once for each of both.
 pub record MovesHands (c : CallerSeen) (moves pushes : ℕ) (d : CallerSeen) : Type 0 where

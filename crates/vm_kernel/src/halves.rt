@@ -1,5 +1,5 @@
 //! The two halves of a turn: a try, with the transfer that it needs, and the end of that transfer.
-ghost use Rattle.std.specs.Prelude.{◌≡◌, ◌≢◌, ◌≤◌, ◌+◌, ℕ, Some, None, length, IfOk, OnErr};
+ghost use Rattle.std.specs.Prelude.{◌≡◌, ◌⊎◌, ◌≢◌, ◌≤◌, ◌+◌, ℕ, Some, None, length, IfOk, OnErr};
 ghost use Rattle.kernel_lock.specs.Seats.{IsSeatOf};
 ghost use Rattle.vm_core.specs.fault_entry.Accesses.{IsAccess};
 ghost use Rattle.vm_kernel.specs.Callers.{IsIdle};
@@ -8,6 +8,8 @@ ghost use Rattle.vm_kernel.specs.Turns.{
   MayCall,
   CallerGoesOn,
   MovesHands,
+  TriesOnce,
+  IsOneTurn,
   IsQuick,
   IsTurn,
   IsFirstHalf,
@@ -45,6 +47,8 @@ fn first_at<D: Disk>(
     ensures seat { IsSeatOf lock.now seat.new }
     ensures idle { IsIdle seat.new process sent.new }
     ensures goes { CallerGoesOn (caller_at seat.old process) (caller_at seat.new process) }
+    ensures once { TriesOnce (caller_at seat.old process) (caller_at seat.new process) }
+    ensures emptied { seat.new.emptied ≡ seat.old.emptied }
     ensures half { IsFirstHalf (caller_at seat.old process) call.now
         (caller_at seat.new process) result }
 {
@@ -102,6 +106,8 @@ fn second_at<D: Disk>(
     ensures seat { IsSeatOf lock.now seat.new }
     ensures idle { IsIdle seat.new process sent.new }
     ensures goes { CallerGoesOn (caller_at seat.old process) (caller_at seat.new process) }
+    ensures once { TriesOnce (caller_at seat.old process) (caller_at seat.new process) }
+    ensures ended { (seat.new.emptied ≡ seat.old.emptied + 1) ⊎ (seat.new.note ≡ seat.old.note) }
     ensures turn { IsTurn (caller_at seat.old process) call.now (caller_at seat.new process)
         (turn_of_ended result) }
 {
@@ -153,6 +159,7 @@ pub(crate) fn turn_at<D: Disk>(
     ensures seat { IsSeatOf lock.now seat.new }
     ensures idle { IsIdle seat.new process sent.new }
     ensures goes { CallerGoesOn (caller_at seat.old process) (caller_at seat.new process) }
+    ensures once { IsOneTurn (caller_at seat.old process) (caller_at seat.new process) }
     ensures turn { IfOk result (λ turn. IsTurn (caller_at seat.old process) call.now
         (caller_at seat.new process) turn) }
     ensures err { OnErr result (LacksMemory (caller_at seat.old process) call.now

@@ -2,7 +2,7 @@
 ghost use Rattle.std.specs.Prelude.{◌≡◌, ◌≢◌, ◌≤◌, ℕ, None, IfOk, OnErr};
 ghost use mathlib.Core.List.{IsPrefix};
 ghost use Rattle.vm_kernel.specs.Callers.{IsCallerOf};
-ghost use Rattle.vm_kernel.specs.Turns.{MayCall, CallerGoesOn, MovesHands, IsQuick, IsTurn, IsCallDone, LacksMemory, HasSeenMore, HasComeTo, turn_of_ended};
+ghost use Rattle.vm_kernel.specs.Turns.{MayCall, CallerGoesOn, MovesHands, IsOneTurn, IsQuick, IsTurn, IsCallDone, LacksMemory, HasSeenMore, HasComeTo, turn_of_ended};
 
 use crate::boxed::BoxedState;
 use crate::caller::Caller;
@@ -46,6 +46,8 @@ impl<D: Disk> VmKernel<D> {
         requires may { MayCall self.now caller.old call.now }
         ensures caller { IsCallerOf self.now caller.new }
         ensures goes { CallerGoesOn caller.old caller.new }
+        // It tries the lock once, or twice round a transfer.
+        ensures once { IsOneTurn caller.old caller.new }
         // Done: exactly one entry was added. Again: none, and why.
         ensures turn { IfOk result (λ turn. IsTurn caller.old call.now caller.new turn) }
         ensures err { OnErr result (LacksMemory caller.old call.now caller.new) }
@@ -73,6 +75,8 @@ impl<D: Disk> VmKernel<D> {
         requires may { MayCall self.now caller.old call.now }
         ensures caller { IsCallerOf self.now caller.new }
         ensures goes { CallerGoesOn caller.old caller.new }
+        // It tries the lock once, or twice round a transfer.
+        ensures once { IsOneTurn caller.old caller.new }
         // As of a turn.
         ensures turn { IfOk result (λ turn. IsTurn caller.old call.now caller.new turn) }
         ensures err { OnErr result (LacksMemory caller.old call.now caller.new) }
