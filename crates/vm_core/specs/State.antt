@@ -14,7 +14,7 @@ use Rattle.vm_core.specs.declared.kept.Kept.{Kept}
 
 -- The plan as the state's meaning has it.
 abbrev pub kept_seen : Kept → KeptPlan
-kept_seen k = record { seat = k.seat; plan = k.plan; of = k.of.value }
+kept_seen k = record { seat = k.seat; plan = k.plan; of = k.of }
 
 -- The processes that are marked, the first mark being that of process k.
 abbrev pub marked_processes : ℕ → List Bool → List ℕ

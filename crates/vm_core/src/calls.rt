@@ -27,7 +27,6 @@ use crate::kept::{Kept, forget};
 use crate::state::VmState;
 use fault_entry::{Answer, Attempt, Call, Disk, Plan, Reply};
 use std::alloc::AllocError;
-use std::snapshot::Snapshot;
 
 impl<D: Disk> VmState<D> {
     /// Tries a call of a process at its seat.
@@ -170,7 +169,7 @@ impl<D: Disk> VmState<D> {
         self.plan = Some(Kept {
             seat,
             plan,
-            of: Snapshot::of(&Some((process, *call))),
+            of: Some((process, *call)),
         });
     }
 
@@ -213,7 +212,7 @@ impl<D: Disk> VmState<D> {
                 self.plan = Some(Kept {
                     seat,
                     plan: *plan,
-                    of: Snapshot::of(&Some((process, *call))),
+                    of: Some((process, *call)),
                 });
             }
             Attempt::Busy(_) => self.begin_call(seat, call),

@@ -12,7 +12,6 @@ ghost use Rattle.vm_core.specs.Fits.{FitsAt};
 use crate::kept::{Kept, forget};
 use crate::state::VmState;
 use fault_entry::{Disk, Pick, Plan, Wants, World, ask, evict, sync};
-use std::snapshot::Snapshot;
 
 /// What the translations of a frame say of its use, its row says then.
 fn gather_use<D: Disk>(world: &mut World<D>, frame: u32)
@@ -111,7 +110,7 @@ fn keep(kept: &mut Option<Kept>, seat: u32, plan: Option<Plan>)
             *kept = Some(Kept {
                 seat,
                 plan,
-                of: Snapshot::of(&None),
+                of: None,
             });
         }
         None => forget(kept),

@@ -2,18 +2,17 @@
 ghost use Rattle.std.specs.Prelude.{◌≡◌, None};
 
 use fault_entry::{Call, Plan};
-use std::snapshot::Snapshot;
 
 /// A plan that an event answered: the seat that may begin it, and the process and call that it is for; none where it is the
-/// clock's. Clauses alone read these: no call is copied.
-#[derive(Drop)]
+/// clock's.
+#[derive(Clone, Copy, PartialEq, Eq, Debug)]
 pub struct Kept {
     pub seat: u32,
     pub plan: Plan,
-    pub of: Snapshot<Option<(u32, Call)>>,
+    pub of: Option<(u32, Call)>,
 }
 
-/// No plan is kept. Where none was, nothing is written: each hit comes here.
+/// No plan is kept. Where none was, nothing is written: each hit comes here, and a plan has room for a whole call.
 pub(crate) fn forget(plan: &mut Option<Kept>)
     ensures { plan.new ≡ None }
 {

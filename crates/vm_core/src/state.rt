@@ -167,9 +167,9 @@ impl<D: Disk> VmState<D> {
     }
 
     /// The last plan that an event answered, where no event came since.
-    pub fn kept(&self) -> Option<&Kept>
-        ensures { option_map (λ k. kept_seen k.now) result ≡ self.now.plan }
+    pub fn kept(&self) -> Option<Kept>
+        ensures { option_map kept_seen result ≡ self.now.plan }
     {
-        self.plan.as_ref()
+        self.plan
     }
 }

@@ -10,7 +10,7 @@ use Rattle.vm_kernel.specs.declared.sent.SentFlight.{SentFlight}
 -- What a seat has outside that has this.
 abbrev pub note_of_held : {D : Type 0} → Option (SentFlight D) → Option Sent
 note_of_held None = None
-note_of_held (Some x) = Some record { note = note_of x.flight; of = x.of.value }
+note_of_held (Some x) = Some record { note = note_of x.flight; of = x.of }
 
 -- A note that no seat has.
 abbrev pub no_sent : Sent
@@ -40,11 +40,11 @@ AreUnperformed (Some x) = IsUnperformed x
 
 -- A flight is for this process and call, or for none.
 abbrev pub IsSentFor : {D : Type 0} → SentFlight D → Option Caller → Type 0
-IsSentFor x of = of ≡ x.of.value
+IsSentFor x of = of ≡ x.of
 
 -- What a caller has in hand is what its seat's note says: nothing, or the flight of the note, whose transfer was made.
 abbrev pub InHand : {D : Type 0} → Option (SentFlight D) → Option Sent → Type 0
 InHand None None = Unit {0}
 InHand None (Some note) = ⊥
 InHand (Some x) None = ⊥
-InHand (Some x) (Some note) = IsBack note x.flight x.of.value
+InHand (Some x) (Some note) = IsBack note x.flight x.of

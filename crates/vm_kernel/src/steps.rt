@@ -11,7 +11,6 @@ ghost use Rattle.vm_kernel.specs.Steps.{TriesAccess, TriesCall, EndsFlight, IsFo
 
 use crate::sent::SentFlight;
 use std::alloc::AllocError;
-use std::snapshot::Snapshot;
 use vm_core::{Answer, Attempt, Call, Disk, Hold, Plan, Reply, VmState};
 
 /// What a try comes to.
@@ -43,7 +42,7 @@ fn send<D: Disk>(
 {
     *sent = Some(SentFlight {
         flight: state.begin(seat, plan),
-        of: Snapshot::of(of),
+        of: *of,
     });
 }
 
