@@ -29,6 +29,7 @@ mod joined_tests;
 mod kept_tests;
 #[cfg(test)]
 mod mapping_tests;
+#[cfg(test)]
 mod member_tests;
 #[cfg(test)]
 mod overlap_tests;
