@@ -152,7 +152,8 @@ impl<S: Guarded> KernelLock<S> {
         self.leaves.rings()
     }
 
-    /// Sleeps until `leaves` differs from `seen`, or answers earlier. Nothing is promised of it.
+    /// Waits until `leaves` differs from `seen`, or answers earlier. Since a state is mostly back soon, it looks some times
+    /// before it sleeps. Nothing is promised of it.
     pub fn rest<R: Wait>(&self, rt: &R, seen: u64) {
         self.leaves.rest(rt, seen);
     }
