@@ -5,5 +5,6 @@ pub mod Rooms
 pub mod Since
 pub mod SinceLaws
 pub mod Steps
+pub mod Tries
 pub mod Turns
 pub mod Visits

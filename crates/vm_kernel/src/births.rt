@@ -3,6 +3,7 @@ ghost use Rattle.std.specs.Prelude.{◌≡◌, IfOk, OnErr};
 ghost use Rattle.vm_core.specs.flat_model.Births.{is_done};
 ghost use Rattle.vm_core.specs.vm_types.declared.call.Call.TheVariants.{Fork};
 ghost use Rattle.vm_kernel.specs.Callers.{IsCallerOf};
+ghost use Rattle.vm_kernel.specs.Tries.{IsAllTo};
 ghost use Rattle.vm_kernel.specs.Turns.{MayCall, CallerGoesOn, IsCallDone, LacksMemory, SeesBirth};
 
 use crate::caller::Caller;
@@ -51,6 +52,8 @@ impl<D: Disk> VmKernel<D> {
         ensures done { IfOk result (λ reply. IsCallDone parent.old (Fork child.old.process)
             parent.new reply) }
         ensures err { OnErr result (LacksMemory parent.old (Fork child.old.process) parent.new) }
+        // Each try of the lock was for the call.
+        ensures all { IsAllTo self.now parent.old (Fork child.old.process) parent.new result }
         // The child.
         ensures child { IfOk result (λ reply. SeesBirth (is_done reply) parent.new
             child.old child.new) }

@@ -4,6 +4,7 @@ ghost use Rattle.kernel_lock.specs.Seats.{IsSeatOf};
 ghost use Rattle.vm_core.specs.fault_entry.Accesses.{IsAccess};
 ghost use Rattle.vm_kernel.specs.Callers.{IsIdle};
 ghost use Rattle.vm_kernel.specs.Steps.{IsNoteFor, IsForNone};
+ghost use Rattle.vm_kernel.specs.Tries.{IsAllFor, IsAllTo};
 ghost use Rattle.vm_kernel.specs.Turns.{
   MayCall,
   CallerGoesOn,
@@ -51,6 +52,9 @@ fn first_at<D: Disk>(
     ensures emptied { seat.new.emptied ≡ seat.old.emptied }
     ensures half { IsFirstHalf (caller_at seat.old process) call.now
         (caller_at seat.new process) result }
+    // Each try of the lock was for the call.
+    ensures all { IsAllTo lock.now (caller_at seat.old process) call.now
+        (caller_at seat.new process) result }
 {
     let Some(state) = lock.try_enter(seat) else {
         return Ok(Some(Turn::Again(Why::LockHeld)));
@@ -80,6 +84,9 @@ pub(crate) fn access_at<D: Disk>(
     ensures goes { CallerGoesOn (caller_at seat.old process) (caller_at seat.new process) }
     ensures quick { IsQuick (caller_at seat.old process) call.now
         (caller_at seat.new process) result }
+    // Each try of the lock was for the call.
+    ensures all { IsAllFor lock.now (caller_at seat.old process) call.now
+        (caller_at seat.new process) }
 {
     let Some(state) = lock.try_enter(seat) else {
         return Quick::Later;
@@ -110,6 +117,9 @@ fn second_at<D: Disk>(
     ensures ended { (seat.new.emptied ≡ seat.old.emptied + 1) ⊎ (seat.new.note ≡ seat.old.note) }
     ensures turn { IsTurn (caller_at seat.old process) call.now (caller_at seat.new process)
         (turn_of_ended result) }
+    // Each try of the lock was for the call.
+    ensures all { IsAllFor lock.now (caller_at seat.old process) call.now
+        (caller_at seat.new process) }
 {
     let Some(state) = lock.try_enter(seat) else {
         return Ended::Held;
@@ -140,6 +150,9 @@ pub(crate) fn end_at<D: Disk>(
     ensures goes { CallerGoesOn (caller_at seat.old process) (caller_at seat.new process) }
     ensures turn { IsTurn (caller_at seat.old process) call.now (caller_at seat.new process)
         (turn_of_ended result) }
+    // Each try of the lock was for the call.
+    ensures all { IsAllFor lock.now (caller_at seat.old process) call.now
+        (caller_at seat.new process) }
 {
     second_at(lock, seat, process, sent, call)
 }
@@ -164,6 +177,9 @@ pub(crate) fn turn_at<D: Disk>(
         (caller_at seat.new process) turn) }
     ensures err { OnErr result (LacksMemory (caller_at seat.old process) call.now
         (caller_at seat.new process)) }
+    // Each try of the lock was for the call.
+    ensures all { IsAllTo lock.now (caller_at seat.old process) call.now
+        (caller_at seat.new process) result }
 {
     if sent.is_some() {
         return Ok(turn_of_ended(second_at(lock, seat, process, sent, call)));

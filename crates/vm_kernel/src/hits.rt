@@ -5,6 +5,7 @@ ghost use Rattle.vm_core.specs.Fits.{FitsAt};
 ghost use Rattle.vm_core.specs.fault_entry.Accesses.{IsAccess};
 ghost use Rattle.vm_core.specs.vm_world.Events.{CanTry};
 ghost use Rattle.vm_kernel.specs.Callers.{IsIdle};
+ghost use Rattle.vm_kernel.specs.Tries.{IsAllFor};
 ghost use Rattle.vm_kernel.specs.Turns.{MayCall, CallerGoesOn, IsQuick, caller_at};
 ghost use Rattle.vm_kernel.specs.Visits.{LeavesQuick};
 
@@ -40,6 +41,9 @@ pub(crate) fn hit_at<D: Disk>(
     ensures goes { CallerGoesOn (caller_at seat.old process) (caller_at seat.new process) }
     ensures quick { IsQuick (caller_at seat.old process) call.now
         (caller_at seat.new process) result }
+    // Each try of the lock was for the call.
+    ensures all { IsAllFor lock.now (caller_at seat.old process) call.now
+        (caller_at seat.new process) }
 {
     let Some(state) = lock.try_enter(seat) else {
         return Quick::Later;

@@ -2,6 +2,7 @@
 ghost use Rattle.std.specs.Prelude.{◌≡◌, ◌≢◌, ◌≤◌, ℕ, None, IfOk, OnErr};
 ghost use mathlib.Core.List.{IsPrefix};
 ghost use Rattle.vm_kernel.specs.Callers.{IsCallerOf};
+ghost use Rattle.vm_kernel.specs.Tries.{IsAllFor, IsAllTo};
 ghost use Rattle.vm_kernel.specs.Turns.{MayCall, CallerGoesOn, MovesHands, IsOneTurn, IsQuick, IsTurn, IsCallDone, LacksMemory, HasSeenMore, HasComeTo, turn_of_ended};
 
 use crate::boxed::BoxedState;
@@ -51,6 +52,8 @@ impl<D: Disk> VmKernel<D> {
         // Done: exactly one entry was added. Again: none, and why.
         ensures turn { IfOk result (λ turn. IsTurn caller.old call.now caller.new turn) }
         ensures err { OnErr result (LacksMemory caller.old call.now caller.new) }
+        // Each try of the lock was for the call.
+        ensures all { IsAllTo self.now caller.old call.now caller.new result }
     {
         turn_at(
             &self.lock,
@@ -80,6 +83,8 @@ impl<D: Disk> VmKernel<D> {
         // As of a turn.
         ensures turn { IfOk result (λ turn. IsTurn caller.old call.now caller.new turn) }
         ensures err { OnErr result (LacksMemory caller.old call.now caller.new) }
+        // Each try of the lock was for the call.
+        ensures all { IsAllTo self.now caller.old call.now caller.new result }
     {
         let leaves = self.lock.leaves();
         let changes = self.lock.changes();
@@ -107,6 +112,8 @@ impl<D: Disk> VmKernel<D> {
         ensures goes { CallerGoesOn caller.old caller.new }
         ensures done { IfOk result (λ reply. IsCallDone caller.old call.now caller.new reply) }
         ensures err { OnErr result (LacksMemory caller.old call.now caller.new) }
+        // Each try of the lock was for the call.
+        ensures all { IsAllTo self.now caller.old call.now caller.new result }
     {
         match self.hit(caller, call) {
             Quick::Word(word) => Ok(Reply::Word(word)),
@@ -131,6 +138,8 @@ impl<D: Disk> VmKernel<D> {
         ensures goes { CallerGoesOn caller.old caller.new }
         ensures done { IfOk result (λ reply. IsCallDone caller.old call.now caller.new reply) }
         ensures err { OnErr result (LacksMemory caller.old call.now caller.new) }
+        // Each try of the lock was for the call.
+        ensures all { IsAllTo self.now caller.old call.now caller.new result }
     {
         self.call_by_turns(rt, caller, call)
     }
@@ -143,6 +152,8 @@ impl<D: Disk> VmKernel<D> {
         ensures caller { IsCallerOf self.now caller.new }
         ensures goes { CallerGoesOn caller.old caller.new }
         ensures quick { IsQuick caller.old call.now caller.new result }
+        // Each try of the lock was for the call.
+        ensures all { IsAllFor self.now caller.old call.now caller.new }
     {
         if let Call::Load { .. } | Call::Store { .. } = *call {
             if caller.sent.is_none() {
@@ -166,6 +177,8 @@ impl<D: Disk> VmKernel<D> {
         ensures caller { IsCallerOf self.now caller.new }
         ensures goes { CallerGoesOn caller.old caller.new }
         ensures quick { IsQuick caller.old call.now caller.new result }
+        // Each try of the lock was for the call.
+        ensures all { IsAllFor self.now caller.old call.now caller.new }
     {
         if caller.sent.is_some() {
             return self.untried(caller, call);
@@ -197,6 +210,8 @@ impl<D: Disk> VmKernel<D> {
         requires may { MayCall self.now caller.now call.now }
         ensures goes { CallerGoesOn caller.now caller.now }
         ensures quick { IsQuick caller.now call.now caller.now result }
+        // Each try of the lock was for the call.
+        ensures all { IsAllFor self.now caller.now call.now caller.now }
     {
         caller.own_law();
         let _ = call;
@@ -213,6 +228,8 @@ impl<D: Disk> VmKernel<D> {
         ensures caller { IsCallerOf self.now caller.new }
         ensures goes { CallerGoesOn caller.old caller.new }
         ensures turn { IsTurn caller.old call.now caller.new (turn_of_ended result) }
+        // Each try of the lock was for the call.
+        ensures all { IsAllFor self.now caller.old call.now caller.new }
     {
         let leaves = self.lock.leaves();
         let ended = end_at(
@@ -245,6 +262,8 @@ impl<D: Disk> VmKernel<D> {
         ensures goes { CallerGoesOn caller.old caller.new }
         ensures turn { IfOk result (λ done. HasComeTo caller.old call.now caller.new reply.new) }
         ensures err { OnErr result (LacksMemory caller.old call.now caller.new) }
+        // Each try of the lock was for the call.
+        ensures all { IsAllTo self.now caller.old call.now caller.new result }
     {
         match self.turn_and_rest(rt, caller, call)? {
             Turn::Done(done) => {
@@ -272,6 +291,8 @@ impl<D: Disk> VmKernel<D> {
         ensures goes { CallerGoesOn caller.old caller.new }
         ensures turn { IfOk result (λ done. HasComeTo caller.old call.now caller.new reply.new) }
         ensures err { OnErr result (LacksMemory caller.old call.now caller.new) }
+        // Each try of the lock was for the call.
+        ensures all { IsAllTo self.now caller.old call.now caller.new result }
     {
         if caller.is_free() {
             return self.turn_into(rt, caller, call, reply);
@@ -310,6 +331,8 @@ impl<D: Disk> VmKernel<D> {
         ensures goes { CallerGoesOn caller.old caller.new }
         ensures done { IfOk result (λ reply. IsCallDone caller.old call.now caller.new reply) }
         ensures err { OnErr result (LacksMemory caller.old call.now caller.new) }
+        // Each try of the lock was for the call.
+        ensures all { IsAllTo self.now caller.old call.now caller.new result }
     {
         caller.own_law();
         let mut reply = None;

@@ -9,6 +9,7 @@ use Rattle.vm_kernel.proofs.Fits.{fits-in, tries-in, has-process}
 use Rattle.vm_kernel.proofs.Visited.{Comes, quick-comes, tried-comes, goes-then, no-note, entered-so}
 use Rattle.vm_kernel.proofs.halves.access_at.Given.{Over}
 use Rattle.vm_kernel.proofs.halves.access_at.Goals as goal
+use Rattle.vm_kernel.proofs.Tries.{one-try, tried-inside}
 use Rattle.vm_kernel.proofs.halves.access_at.Goals.{After-access_and_leave-answer}
 
 pub access_and_leave-answer-requires-clause-fits : goal.access_and_leave-answer-requires-clause-fits
@@ -43,3 +44,11 @@ returns-clause-quick g c =
     let x = comes g (goal.at.returns-clause-quick g c).After-access_and_leave-answer in
     subst (IsQuick (caller_at c.args.seat.now c.args.process) c.args.call.now (caller_at c.access_and_leave-answer.new.seat c.args.process)) (sym c.quick_of.ensures)
     (quick-comes (caller_at c.args.seat.now c.args.process) c.args.call.now (caller_at c.access_and_leave-answer.new.seat c.args.process) c.access_and_leave-answer.result x.half)
+
+pub returns-clause-all : goal.returns-clause-all
+returns-clause-all g c =
+    let v = c.args.seat.now in
+    let w = c.access_and_leave-answer.new.seat in
+    one-try c.args.lock.now c.args.process c.args.call.now v w
+    (tried-inside c.args.lock.now c.args.process c.args.call.now (Unit {0}) v c.try_enter.new.seat w c.in-Some.state (note_of_held c.access_and_leave-answer.new.sent) (tried_of c.access_and_leave-answer.result)
+    c.in-Some.ensures.state c.in-Some.ensures.inside c.access_and_leave-answer.ensures.leaves)

@@ -7,8 +7,9 @@ use Rattle.vm_kernel.specs.Callers.{SeatSeen}
 use Rattle.vm_kernel.specs.Notes.{InHand, note_of_held}
 use Rattle.vm_kernel.specs.Steps.{TriesAccess, tried_of}
 use Rattle.vm_kernel.specs.Turns.{IsQuick, caller_at}
-use Rattle.vm_kernel.specs.Visits.{LeavesAccess}
+use Rattle.vm_kernel.specs.Visits.{LeavesTry, LeavesAccess}
 use Rattle.vm_kernel.proofs.Fits.{event-at, fits-in, tries-in, has-process}
+use Rattle.vm_kernel.proofs.Tries.{one-try, tried-inside}
 use Rattle.vm_kernel.proofs.Visited.{Comes, quick-comes, tried-comes, goes-then, idle-then, no-note, entered-so}
 use Rattle.vm_kernel.proofs.hits.hit_at.Given.{Over}
 use Rattle.vm_kernel.proofs.hits.hit_at.Goals as goal
@@ -50,15 +51,11 @@ leave-requires-clause-moves g c = (
   hit-event g (goal.at.leave-requires-clause-moves g c).After-number c.try_hit.new.self c.in-Some-try_hit.ensures.event,
 )
 
-hit-comes : (g : Over) (c : After-leave g) → Comes {E = Unit {0}} c.args.seat.now c.args.process c.args.call.now c.leave.new.seat (note_of_held c.args.sent.now) (Ok (tried_of c.in-Some-try_hit.answer))
-hit-comes g c =
-    let v = c.args.seat.now in
+hit-leaves : (g : Over) (c : After-leave g) → LeavesTry {E = Unit {0}} c.try_enter.new.seat c.in-Some.state c.args.process c.args.call.now c.leave.new.seat (note_of_held c.args.sent.now) (Ok (tried_of c.in-Some-try_hit.answer))
+hit-leaves g c =
     let b = c.try_enter.new.seat in
     let t = c.try_hit.new.self in
-    let none = ap (λ (w : SeatSeen). w.note) c.in-Some.ensures.inside ∙ no-note c.args.sent.now v.note c.requires.none c.requires.idle.hand in
-    tried-comes c.args.lock.now.opening c.args.lock.now.seats v b c.leave.new.seat c.in-Some.state c.args.process c.args.call.now (note_of_held c.args.sent.now)
-    c.in-Some.ensures.state (entered-so v b c.in-Some.state c.in-Some.ensures.inside)
-    (has-process c.args.lock.now v c.args.process c.args.call.now c.requires.may c.requires.idle.named) (Ok (tried_of c.in-Some-try_hit.answer)) (
+    let none = ap (λ (w : SeatSeen). w.note) c.in-Some.ensures.inside ∙ no-note c.args.sent.now c.args.seat.now.note c.requires.none c.requires.idle.hand in (
       t,
       record {
         new = c.leave.ensures.new;
@@ -68,6 +65,21 @@ hit-comes g c =
       subst (λ (x : Call). TriesAccess c.in-Some.state t c.args.process x (note_of_held c.args.sent.now) c.in-Some-try_hit.answer) c.requires.same
           (subst (λ o. TriesAccess c.in-Some.state t c.args.process c.args.own.now (note_of_held o) c.in-Some-try_hit.answer) (sym c.requires.none) c.in-Some-try_hit.ensures.tries),
     )
+
+hit-comes : (g : Over) (c : After-leave g) → Comes {E = Unit {0}} c.args.seat.now c.args.process c.args.call.now c.leave.new.seat (note_of_held c.args.sent.now) (Ok (tried_of c.in-Some-try_hit.answer))
+hit-comes g c =
+    let v = c.args.seat.now in
+    let b = c.try_enter.new.seat in
+    tried-comes c.args.lock.now.opening c.args.lock.now.seats v b c.leave.new.seat c.in-Some.state c.args.process c.args.call.now (note_of_held c.args.sent.now)
+    c.in-Some.ensures.state (entered-so v b c.in-Some.state c.in-Some.ensures.inside)
+    (has-process c.args.lock.now v c.args.process c.args.call.now c.requires.may c.requires.idle.named) (Ok (tried_of c.in-Some-try_hit.answer)) (hit-leaves g c)
+
+pub returns-in-Some-try_hit-clause-all : goal.returns-in-Some-try_hit-clause-all
+returns-in-Some-try_hit-clause-all g c =
+    let v = c.args.seat.now in
+    one-try c.args.lock.now c.args.process c.args.call.now v c.leave.new.seat
+    (tried-inside c.args.lock.now c.args.process c.args.call.now (Unit {0}) v c.try_enter.new.seat c.leave.new.seat c.in-Some.state (note_of_held c.args.sent.now) (tried_of c.in-Some-try_hit.answer)
+    c.in-Some.ensures.state c.in-Some.ensures.inside (hit-leaves g (goal.at.returns-in-Some-try_hit-clause-all g c).After-leave))
 
 pub returns-in-Some-try_hit-clause-idle : goal.returns-in-Some-try_hit-clause-idle
 returns-in-Some-try_hit-clause-idle g c =
@@ -110,14 +122,26 @@ miss_at-requires-clause-may g c =
     (subst (λ (k : ℕ). CanTry c.in-Some.state k c.args.process c.args.call.now) (sym (ap (λ (w : SeatSeen). w.number) c.in-Some.ensures.inside))
     (tries-in c.args.lock.now c.args.lock.now.seats v c.in-Some.state c.in-Some.ensures.state c.args.process c.args.call.now c.requires.idle.low named c.requires.may))
 
+miss-leaves : (g : Over) (c : After-miss_at g) → LeavesAccess c.try_enter.new.seat c.in-Some.state c.args.process c.args.call.now c.miss_at.new.seat c.miss_at.ensures.leaves.1 c.miss_at.ensures.leaves.0
+miss-leaves g c =
+    let l = c.miss_at.ensures.leaves in
+    subst (λ (s : KernelState). LeavesAccess c.try_enter.new.seat s c.args.process c.args.call.now c.miss_at.new.seat l.1 l.0) c.in_default-try_hit.ensures.none l.3
+
 miss-comes : (g : Over) (c : After-miss_at g) → Comes {E = Unit {0}} c.args.seat.now c.args.process c.args.call.now c.miss_at.new.seat c.miss_at.ensures.leaves.1 (Ok (tried_of c.miss_at.ensures.leaves.0))
 miss-comes g c =
     let v = c.args.seat.now in
     let l = c.miss_at.ensures.leaves in
     tried-comes c.args.lock.now.opening c.args.lock.now.seats v c.try_enter.new.seat c.miss_at.new.seat c.in-Some.state c.args.process c.args.call.now l.1
     c.in-Some.ensures.state (entered-so v c.try_enter.new.seat c.in-Some.state c.in-Some.ensures.inside)
-    (has-process c.args.lock.now v c.args.process c.args.call.now c.requires.may c.requires.idle.named) (Ok (tried_of l.0))
-    (subst (λ (s : KernelState). LeavesAccess c.try_enter.new.seat s c.args.process c.args.call.now c.miss_at.new.seat l.1 l.0) c.in_default-try_hit.ensures.none l.3)
+    (has-process c.args.lock.now v c.args.process c.args.call.now c.requires.may c.requires.idle.named) (Ok (tried_of l.0)) (miss-leaves g c)
+
+pub returns-clause-all : goal.returns-clause-all
+returns-clause-all g c =
+    let v = c.args.seat.now in
+    let l = c.miss_at.ensures.leaves in
+    one-try c.args.lock.now c.args.process c.args.call.now v c.miss_at.new.seat
+    (tried-inside c.args.lock.now c.args.process c.args.call.now (Unit {0}) v c.try_enter.new.seat c.miss_at.new.seat c.in-Some.state l.1 (tried_of l.0)
+    c.in-Some.ensures.state c.in-Some.ensures.inside (miss-leaves g (goal.at.returns-clause-all g c).After-miss_at))
 
 pub returns-clause-idle : goal.returns-clause-idle
 returns-clause-idle g c =

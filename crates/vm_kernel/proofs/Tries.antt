@@ -1,0 +1,69 @@
+-- Tries of the lock, one after another.
+use Rattle.std.proofs.Common.{◌≡◌, ℕ, zero, suc, Option, Some, None, Result, Ok, Err, refl, sym, ◌∙◌, subst, inl, inr}
+use Rattle.kernel_lock.specs.Seats.{after_enter, after_refusal}
+use Rattle.vm_core.specs.vm_types.declared.call.Call.{Call}
+use Rattle.vm_core.specs.vm_types.declared.call.Reply.{Reply}
+use Rattle.vm_core.specs.vm_world.State.{KernelState, Sent}
+use Rattle.vm_kernel.specs.Callers.{KernelSeen, SeatSeen, CallerSeen}
+use Rattle.vm_kernel.specs.Tries.{MayFind, TriesInside, AreTriesFor, IsTryFor, IsAllFor, IsAllTo}
+use Rattle.vm_kernel.specs.Turns.{caller_at, turn_of_try}
+use Rattle.vm_kernel.specs.Visits.{LeavesTry, LeavesEnd}
+use Rattle.vm_kernel.specs.declared.turn.Turn.{Turn}
+use Rattle.vm_kernel.specs.declared.steps.Tried.{Tried}
+use Rattle.vm_kernel.specs.declared.steps.Tried.TheVariants as tried
+
+module _ (k : KernelSeen) (p : ℕ) (call : Call) where
+  pub one-try : (v w : SeatSeen) → IsTryFor k p call v w → (n : ℕ) × AreTriesFor k p call n v w
+  one-try v w t = (1, (v, refl, t))
+
+  pub tries-both : (n m : ℕ) (u v w : SeatSeen) → AreTriesFor k p call n u v → AreTriesFor k p call m v w → (j : ℕ) × AreTriesFor k p call j u w
+  tries-both n zero u v w first last = (n, subst (AreTriesFor k p call n u) (sym last) first)
+  tries-both n (suc m) u v w first (x, then', last) = let r = tries-both n m u v x first then' in (suc r.0, (x, r.1, last))
+
+  -- a visit that tried the call
+  inside-so : (E : Type 0) (v b w : SeatSeen) (s : KernelState) (note : Option Sent) (r : Result Tried E) → b ≡ after_enter v s → LeavesTry b s p call w note r → LeavesTry (after_enter v s) s p call w note r
+  inside-so E v b w s note r is leaves = subst (λ (x : SeatSeen). LeavesTry x s p call w note r) is leaves
+
+  pub tried-inside : (E : Type 0) (v b w : SeatSeen) (s : KernelState) (note : Option Sent) (t : Tried) → MayFind k v s → b ≡ after_enter v s → LeavesTry {E = E} b s p call w note (Ok t) → IsTryFor k p call v w
+  tried-inside E v b w s note (tried.Done r) finds is leaves =
+      inr (inl (tried.Done r, record { found = s; finds = finds; note = note; leaves = inside-so E v b w s note (Ok (tried.Done r)) is leaves }))
+  tried-inside E v b w s note tried.Out finds is leaves = inr (inl (tried.Out, record { found = s; finds = finds; note = note; leaves = inside-so E v b w s note (Ok tried.Out) is leaves }))
+  tried-inside E v b w s note (tried.Busy h) finds is leaves =
+      inr (inl (tried.Busy h, record { found = s; finds = finds; note = note; leaves = inside-so E v b w s note (Ok (tried.Busy h)) is leaves }))
+
+  pub first-all : {E : Type 0} (v b w : SeatSeen) (s : KernelState) (note : Option Sent) (r : Result Tried E) (x : Result (Option Turn) E) → MayFind k v s → b ≡ after_enter v s → LeavesTry b s p call w note r
+      → x ≡ turn_of_try r → IsAllTo k (caller_at v p) call (caller_at w p) x
+  first-all {E} v b w s note (Ok (tried.Done r)) x finds is leaves e =
+      subst (IsAllTo k (caller_at v p) call (caller_at w p)) (sym e) (one-try v w (tried-inside E v b w s note (tried.Done r) finds is leaves))
+  first-all {E} v b w s note (Ok tried.Out) x finds is leaves e = subst (IsAllTo k (caller_at v p) call (caller_at w p)) (sym e) (one-try v w (tried-inside E v b w s note tried.Out finds is leaves))
+  first-all {E} v b w s note (Ok (tried.Busy h)) x finds is leaves e =
+      subst (IsAllTo k (caller_at v p) call (caller_at w p)) (sym e) (one-try v w (tried-inside E v b w s note (tried.Busy h) finds is leaves))
+  first-all {E} v b w s note (Err f) x finds is leaves e =
+      subst (IsAllTo k (caller_at v p) call (caller_at w p)) (sym e)
+      (v, 0, refl, record { found = s; finds = finds; note = note; leaves = inside-so E v b w s note (Err f) is leaves })
+
+  -- a visit that ended a transfer for it
+  pub ended-inside : (v b w : SeatSeen) (s : KernelState) (note : Sent) (reply : Option Reply) → MayFind k v s → b ≡ after_enter v s → v.note ≡ Some note → note.of ≡ Some (p, call) → LeavesEnd b s note w reply → IsTryFor k p call v w
+  ended-inside v b w s note reply finds is noted of leaves =
+      inr (inr (record {
+        found = s;
+        finds = finds;
+        note = note;
+        noted = noted;
+        of = of;
+        reply = reply;
+        leaves = subst (λ (x : SeatSeen). LeavesEnd x s note w reply) is leaves;
+      }))
+
+-- OF CALLERS
+module _ (k : KernelSeen) (c m d : CallerSeen) (call : Call) (same : m.process ≡ c.process) (first : IsAllFor k c call m) where
+  pub all-both : IsAllFor k m call d → IsAllFor k c call d
+  all-both then' =
+      let last = subst (λ (p : ℕ). (n : ℕ) × AreTriesFor k p call n m.seat d.seat) same then' in
+      tries-both k c.process call first.0 last.0 c.seat m.seat d.seat first.1 last.1
+
+  pub all-since : {A E : Type 0} (r : Result A E) → IsAllTo k m call d r → IsAllTo k c call d r
+  all-since (Ok x) then' = all-both then'
+  all-since (Err e) (x, n, tries, lacks) =
+      let last = tries-both k c.process call first.0 n c.seat m.seat x first.1 (subst (λ (p : ℕ). AreTriesFor k p call n m.seat x) same tries) in
+      (x, last.0, last.1, subst (λ (p : ℕ). TriesInside k p call x d.seat (Err tt)) same lacks)
