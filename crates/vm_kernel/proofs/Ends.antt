@@ -1,5 +1,6 @@
 -- What the end of a transfer leaves.
 use Rattle.std.proofs.Common.{◌≡◌, ℕ, Option, Some, None, refl, sym, subst}
+use Rattle.std.specs.Prelude.{IsSome}
 use Rattle.vm_core.specs.block_device.Counts.{HasRisen}
 use Rattle.vm_core.specs.page_store.Bays.{bay_at, home}
 use Rattle.vm_core.specs.page_store.Flight.{FlightSeen, Progress, fresh, done, failed}
@@ -47,3 +48,8 @@ ended old new note f (Some of) (Some r) back is ends at = by_outcome f.outcome r
             count = refl;
           },
         )
+
+-- something went out
+pub some-out : (of : Option Caller) (o : Option Sent) → IsOutFor of o → IsSome o
+some-out of None out = absurd out
+some-out of (Some note) out = refl

@@ -359,7 +359,7 @@ pub record ComesHand (c : SeatSeen) (d : SeatSeen) (note : Option Sent) : Type 0
 
 module _ (opening : KernelState) (n : ℕ) (c b d : SeatSeen) (s : KernelState) (came : IsEntered seat_of_entry history_of IsSinceOpening opening n (part_of c) s) (in' : HasTried (after_enter c s) b) where
   pub hand-comes : (note : Option Sent) → LeavesHand b s d note → ComesHand c d note
-  hand-comes note (t, out, same) = record {
+  hand-comes note (t, out, same, moved) = record {
     state = t;
     visit = visited opening n c b d s t note [] came in' out (same ∙ sym (append-nil s.history)) (All-nil (λ (e : Entry). seat_of_entry e ≡ c.number));
   }

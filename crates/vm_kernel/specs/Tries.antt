@@ -1,12 +1,12 @@
 -- What a caller does at the lock, one try after another. Public clauses cite this.
-use Rattle.std.specs.Prelude.{◌≡◌, ◌⊎◌, ℕ, zero, suc, Option, Some, Result, Ok, Err}
-use Rattle.kernel_lock.specs.Seats.{IsEntered, after_enter, after_refusal, part_of}
+use Rattle.std.specs.Prelude.{◌≡◌, ◌⊎◌, ℕ, zero, suc, Option, Some, None, Result, Ok, Err}
+use Rattle.kernel_lock.specs.Seats.{HasTried, IsEntered, after_enter, after_refusal, part_of}
 use Rattle.vm_core.specs.vm_types.declared.call.Call.{Call}
 use Rattle.vm_core.specs.vm_types.declared.call.Reply.{Reply}
 use Rattle.vm_core.specs.vm_world.State.{KernelState, Sent}
 use Rattle.vm_kernel.specs.Callers.{KernelSeen, SeatSeen, CallerSeen}
 use Rattle.vm_kernel.specs.Since.{seat_of_entry, history_of, IsSinceOpening}
-use Rattle.vm_kernel.specs.Visits.{LeavesTry, LeavesEnd}
+use Rattle.vm_kernel.specs.Visits.{LeavesTry, LeavesEnd, LeavesHand}
 use Rattle.vm_kernel.specs.declared.steps.Tried.{Tried}
 
 -- The seat was refused: another had the state.
@@ -52,3 +52,33 @@ abbrev pub IsAllTo : {A E : Type 0} → KernelSeen → CallerSeen → Call → C
 IsAllTo k c call d (Ok answer) = IsAllFor k c call d
 IsAllTo k c call d (Err e) =
     (m : SeatSeen) × (tries : ℕ) × AreTriesFor k c.process call tries c.seat m × TriesInside k c.process call m d.seat (Err tt)
+
+-- The seat went in, perhaps after it was refused, moved a hand of the clock, began the push that this asks for, and left.
+pub record MovesInside (k : KernelSeen) (v w : SeatSeen) : Type 0 where
+  pub found : KernelState
+  pub finds : MayFind k v found
+  pub inside : SeatSeen
+  pub waited : HasTried (after_enter v found) inside
+  pub note : Option Sent
+  pub leaves : LeavesHand inside found w note
+
+-- The seat went in, perhaps after it was refused, ended a push that is for no call, and left.
+pub record LandsInside (k : KernelSeen) (v w : SeatSeen) : Type 0 where
+  pub found : KernelState
+  pub finds : MayFind k v found
+  pub inside : SeatSeen
+  pub waited : HasTried (after_enter v found) inside
+  pub note : Sent
+  pub noted : v.note ≡ Some note
+  pub of : note.of ≡ None
+  pub reply : Option Reply
+  pub leaves : LeavesEnd inside found note w reply
+
+-- ONE MOVE OF A HAND, and the end of its push where it asked for one.
+abbrev pub IsMove : KernelSeen → SeatSeen → SeatSeen → Type 0
+IsMove k v w = (m : SeatSeen) × MovesInside k v m × ((w ≡ m) ⊎ LandsInside k m w)
+
+-- So many of them, one after another.
+abbrev pub AreMoves : KernelSeen → ℕ → SeatSeen → SeatSeen → Type 0
+AreMoves k zero v w = w ≡ v
+AreMoves k (suc n) v w = (m : SeatSeen) × AreMoves k n v m × IsMove k m w

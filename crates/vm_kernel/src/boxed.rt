@@ -6,7 +6,7 @@ ghost use Rattle.vm_core.specs.vm_world.Events.{IsEvent, CanTry};
 ghost use Rattle.vm_core.specs.vm_world.State.{Sent};
 ghost use Rattle.vm_kernel.specs.Notes.{note_of_held, AreUnperformed, InHand, IsSentFor};
 ghost use Rattle.vm_core.specs.fault_entry.Accesses.{IsAccess};
-ghost use Rattle.vm_kernel.specs.Steps.{TriesAccess, TriesCall, EndsFlight, IsForNone};
+ghost use Rattle.vm_kernel.specs.Steps.{TriesAccess, TriesCall, EndsFlight, MovesHand, IsForNone};
 
 use crate::sent::{SeatNote, SentFlight};
 use crate::steps::{self, Tried};
@@ -148,6 +148,7 @@ impl<D: Disk> BoxedState<D> {
         ensures event { IsEvent seat self.old None self.new (note_of_held sent.new) }
         ensures ready { AreUnperformed sent.new }
         ensures of { IsForNone (note_of_held sent.new) }
+        ensures hand { MovesHand self.old self.new (note_of_held sent.new) }
         ensures same { self.new.history ≡ self.old.history }
     {
         steps::move_hand(&mut self.state, seat, sent);

@@ -4,7 +4,7 @@ ghost use Rattle.kernel_lock.specs.Seats.{IsSeatOf};
 ghost use Rattle.vm_core.specs.fault_entry.Accesses.{IsAccess};
 ghost use Rattle.vm_kernel.specs.Callers.{IsIdle};
 ghost use Rattle.vm_kernel.specs.Steps.{IsNoteFor, IsForNone};
-ghost use Rattle.vm_kernel.specs.Tries.{IsAllFor, IsAllTo};
+ghost use Rattle.vm_kernel.specs.Tries.{IsAllFor, IsAllTo, IsMove, LandsInside};
 ghost use Rattle.vm_kernel.specs.Turns.{
   MayCall,
   CallerGoesOn,
@@ -209,6 +209,7 @@ fn land<R: Wait, D: Disk>(
     ensures own { seat.new.own ≡ seat.old.own }
     ensures home { (pushes : ℕ) × (pushes ≤ 1)
         × MovesHands (caller_at seat.old process) 0 pushes (caller_at seat.new process) }
+    ensures lands { (seat.new ≡ seat.old) ⊎ LandsInside lock.now seat.old seat.new }
 {
     if sent.is_none() {
         return;
@@ -236,6 +237,7 @@ fn bring_home<R: Wait, D: Disk>(
     ensures own { seat.new.own ≡ seat.old.own }
     ensures home { (pushes : ℕ) × (pushes ≤ 1)
         × MovesHands (caller_at seat.old process) 0 pushes (caller_at seat.new process) }
+    ensures lands { (seat.new ≡ seat.old) ⊎ LandsInside lock.now seat.old seat.new }
 {
     let Some(flight) = sent.take() else {
         return;
@@ -264,6 +266,7 @@ pub(crate) fn move_at<R: Wait, D: Disk>(
     ensures own { seat.new.own ≡ seat.old.own }
     ensures moves { (pushes : ℕ) × (pushes ≤ 1)
         × MovesHands (caller_at seat.old process) 1 pushes (caller_at seat.new process) }
+    ensures hand { IsMove lock.now seat.old seat.new }
 {
     let state = lock.enter(rt, seat);
     hand_and_leave(lock, seat, state, sent);

@@ -2,7 +2,7 @@
 ghost use Rattle.std.specs.Prelude.{◌≡◌, ◌≢◌, ◌≤◌, ℕ, None, IfOk, OnErr};
 ghost use mathlib.Core.List.{IsPrefix};
 ghost use Rattle.vm_kernel.specs.Callers.{IsCallerOf};
-ghost use Rattle.vm_kernel.specs.Tries.{IsAllFor, IsAllTo};
+ghost use Rattle.vm_kernel.specs.Tries.{AreMoves, IsAllFor, IsAllTo, IsMove};
 ghost use Rattle.vm_kernel.specs.Turns.{MayCall, CallerGoesOn, MovesHands, IsOneTurn, IsQuick, IsTurn, IsCallDone, LacksMemory, HasSeenMore, HasComeTo, turn_of_ended};
 
 use crate::boxed::BoxedState;
@@ -373,6 +373,7 @@ impl<D: Disk> VmKernel<D> {
         ensures same { caller.new.seat.own ≡ caller.old.seat.own }
         ensures free { caller.new.seat.note ≡ None }
         ensures moves { (pushes : ℕ) × (pushes ≤ 1) × MovesHands caller.old 1 pushes caller.new }
+        ensures hand { IsMove self.now caller.old.seat caller.new.seat }
     {
         move_at(
             rt,
@@ -395,6 +396,8 @@ impl<D: Disk> VmKernel<D> {
         // It left the lock once for each move, and once for each push that a move began.
         ensures moves { (pushes : ℕ) × (pushes ≤ turns)
             × MovesHands caller.old turns pushes caller.new }
+        // Each time it moved a hand, or ended the push that the move before asked for.
+        ensures all { AreMoves self.now turns caller.old.seat caller.new.seat }
     {
         caller.own_law();
         for _turn in 0..turns {

@@ -1,13 +1,13 @@
 //! What a seat does while it has the state: it tries a call and begins the transfer that the call needs, ends a transfer, or moves a
 //! hand of the clock. No lock is named here.
-ghost use Rattle.std.specs.Prelude.{◌≡◌, ◌<◌, ℕ, Some, None, length, option_map};
+ghost use Rattle.std.specs.Prelude.{◌≡◌, ◌<◌, ℕ, Some, None, IsSome, length, option_map};
 ghost use Rattle.vm_core.specs.Fits.{FitsAt};
 ghost use Rattle.vm_core.specs.vm_types.WellFormed.{IsWellFormed};
 ghost use Rattle.vm_core.specs.vm_world.Events.{IsEvent, CanTry};
 ghost use Rattle.vm_core.specs.vm_world.State.{Sent};
 ghost use Rattle.vm_kernel.specs.Notes.{note_of_held, AreUnperformed, InHand, IsSentFor};
 ghost use Rattle.vm_core.specs.fault_entry.Accesses.{IsAccess};
-ghost use Rattle.vm_kernel.specs.Steps.{TriesAccess, TriesCall, EndsFlight, IsForNone, IsNoteFor, IsOutFor};
+ghost use Rattle.vm_kernel.specs.Steps.{TriesAccess, TriesCall, EndsFlight, MovesHand, IsForNone, IsNoteFor, IsOutFor};
 
 use crate::sent::SentFlight;
 use std::alloc::AllocError;
@@ -160,6 +160,7 @@ fn push_out<D: Disk>(
     ensures event { IsEvent seat state.old None state.new (note_of_held sent.new) }
     ensures ready { AreUnperformed sent.new }
     ensures of { IsForNone (note_of_held sent.new) }
+    ensures out { IsSome (note_of_held sent.new) }
     ensures same { state.new.history ≡ state.old.history }
 {
     send(state, seat, plan, &None, sent);
@@ -178,6 +179,7 @@ pub(crate) fn move_hand<D: Disk>(
     ensures event { IsEvent seat state.old None state.new (note_of_held sent.new) }
     ensures ready { AreUnperformed sent.new }
     ensures of { IsForNone (note_of_held sent.new) }
+    ensures hand { MovesHand state.old state.new (note_of_held sent.new) }
     ensures same { state.new.history ≡ state.old.history }
 {
     match state.clock(seat) {

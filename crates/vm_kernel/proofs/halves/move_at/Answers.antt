@@ -1,8 +1,10 @@
-use Rattle.std.proofs.Common.{ℕ, ◌<◌, None, length, sym, subst}
+use Rattle.std.proofs.Common.{ℕ, ◌<◌, [], None, length, sym, subst}
 use Rattle.vm_core.specs.Fits.{FitsAt}
 use Rattle.vm_kernel.specs.Notes.{note_of_held}
 use Rattle.vm_kernel.proofs.Fits.{fits-in, seated-in}
-use Rattle.vm_kernel.proofs.Visited.{hand-comes, moved-once, no-note, tried-number}
+use Rattle.vm_kernel.specs.Turns.{caller_at}
+use Rattle.vm_kernel.proofs.Calling.{goes-both}
+use Rattle.vm_kernel.proofs.Visited.{goes-then, hand-comes, moved-once, no-note, tried-number}
 use Rattle.vm_kernel.proofs.halves.move_at.Goals as goal
 
 pub hand_and_leave-requires-clause-fits : goal.hand_and_leave-requires-clause-fits
@@ -26,3 +28,26 @@ returns-clause-moves g c =
     let came = hand-comes c.args.lock.now.opening c.args.lock.now.seats v c.enter-state.new.seat c.hand_and_leave.new.seat c.enter-state.result c.enter-state.ensures.state c.enter-state.ensures.inside note
     c.hand_and_leave.ensures.leaves in
     (home.0, home.1, moved-once v c.hand_and_leave.new.seat _ c.args.process home.0 note (no-note c.args.sent.now v.note c.requires.none c.requires.idle.hand) came home.2)
+
+pub returns-clause-hand : goal.returns-clause-hand
+returns-clause-hand g c = (
+  c.hand_and_leave.new.seat,
+  record {
+    found = c.enter-state.result;
+    finds = c.enter-state.ensures.state;
+    inside = c.enter-state.new.seat;
+    waited = c.enter-state.ensures.inside;
+    note = note_of_held c.hand_and_leave.new.sent;
+    leaves = c.hand_and_leave.ensures.leaves;
+  },
+  c.land.ensures.lands,
+)
+
+pub returns-clause-goes : goal.returns-clause-goes
+returns-clause-goes g c =
+    let v = c.args.seat.now in
+    let m = c.hand_and_leave.new.seat in
+    let p = c.args.process in
+    let note = note_of_held c.hand_and_leave.new.sent in
+    let came = hand-comes c.args.lock.now.opening c.args.lock.now.seats v c.enter-state.new.seat m c.enter-state.result c.enter-state.ensures.state c.enter-state.ensures.inside note c.hand_and_leave.ensures.leaves in
+    goes-both (caller_at v p) (caller_at m p) (caller_at c.land.new.seat p) (goes-then v m came.state note [] p came.visit) c.land.ensures.goes

@@ -28,4 +28,5 @@ returns-clause-leaves g c = (
         c.requires.inside.2 c.move_hand.ensures.event;
   },
   c.move_hand.ensures.same,
+  c.move_hand.ensures.hand,
 )
