@@ -10,8 +10,8 @@ use Rattle.vm_kernel.specs.Visits.{LeavesTry, LeavesEnd, LeavesHand}
 use Rattle.vm_kernel.specs.declared.steps.Tried.{Tried}
 
 -- The seat was refused: another had the state.
-abbrev pub IsRefused : SeatSeen → SeatSeen → Type 0
-IsRefused v w = (by : ℕ) × (w ≡ after_refusal v by)
+abbrev pub FindsLockHeld : SeatSeen → SeatSeen → Type 0
+FindsLockHeld v w = (by : ℕ) × (w ≡ after_refusal v by)
 
 -- A state that a seat finds where it goes in: it fits the opening and the notes of all seats, and holds to what is known of this one.
 abbrev pub MayFind : KernelSeen → SeatSeen → KernelState → Type 0
@@ -36,7 +36,7 @@ pub record EndsInside (k : KernelSeen) (p : ℕ) (call : Call) (v w : SeatSeen) 
 
 -- ONE TRY OF THE LOCK FOR A CALL: it was refused, or the call was tried, or a transfer for the call ended.
 abbrev pub IsTryFor : KernelSeen → ℕ → Call → SeatSeen → SeatSeen → Type 0
-IsTryFor k p call v w = IsRefused v w ⊎ (((tried : Tried) × TriesInside k p call v w (Ok tried)) ⊎ EndsInside k p call v w)
+IsTryFor k p call v w = FindsLockHeld v w ⊎ (((tried : Tried) × TriesInside k p call v w (Ok tried)) ⊎ EndsInside k p call v w)
 
 -- So many of them, one after another.
 abbrev pub AreTriesFor : KernelSeen → ℕ → Call → ℕ → SeatSeen → SeatSeen → Type 0
