@@ -1,5 +1,5 @@
 -- A caller that goes on with its process, for tests and measurements. Public clauses cite this.
-use Rattle.std.specs.Prelude.{◌≡◌, ◌≤◌, ◌+◌, ◌||◌, ℕ, Bool, true, false, List, length, Option, Some, None, IsTrue, IsFalse}
+use Rattle.std.specs.Prelude.{◌≡◌, ◌≤◌, ◌+◌, ◌||◌, ℕ, Bool, true, false, length, Option, Some, None, IsTrue, IsFalse}
 use Rattle.std.specs.List.{list_any}
 use Rattle.vm_core.specs.flat_model.Births.{is_birth}
 use Rattle.vm_core.specs.flat_model.OpenLaws.{MayFollow}

@@ -1,5 +1,6 @@
 use Rattle.vm_core.specs.flat_model.Births.{is_done}
-use Rattle.kernel_trials.proofs.Working.{works-forked, works-child, sees-number}
+use Rattle.vm_core.specs.vm_types.declared.call.Call.TheVariants.{Fork}
+use Rattle.kernel_trials.proofs.Working.{works-forked, works-lacking, works-child, sees-number}
 use Rattle.kernel_trials.proofs.worker.Worker.fork.Goals as goal
 
 pub fork-requires-clause-may : goal.fork-requires-clause-may
@@ -26,4 +27,14 @@ returns-clause-child g c =
             c.is_done-is_born.ensures c.in-Ok.ensures.done c.fork.ensures.goes c.in-Ok.ensures.child,
       ),
       sees-number (is_done c.in-Ok.reply) c.fork.new.parent w.caller c.fork.new.child c.in-Ok.ensures.child,
+    )
+
+pub returns-in_default-clause-works : goal.returns-in_default-clause-works
+returns-in_default-clause-works g c =
+    let w = c.args.self.now in (
+      (
+        c.fork.ensures.callers.0,
+        works-lacking c.args.kernel.now w.caller c.fork.new.parent w.process w.parent w.left w.is_alive w.has_forked w.last c.requires.works.0.1 c.fork.ensures.goes (Fork c.args.child.now.caller.process) w.last c.in_default.ensures.err,
+      ),
+      c.fork.ensures.goes.number,
     )
