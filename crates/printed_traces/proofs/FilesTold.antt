@@ -26,7 +26,7 @@ use Rattle.volume_files.specs.vm_script.Fields.{is_file_name, is_name_letter, is
 use Rattle.volume_files.specs.vm_script.PlanSeen.{PlanSeen}
 use Rattle.volume_files.specs.Attached.{ArePlaced, AttachedSeen, HasItsBytes}
 use Rattle.volume_files.specs.Opened.{AreTablesRead, OpenedFile, infos_of, opened_flat_file, volume_specs}
-use Rattle.volume_files.specs.Written.{disk_sizes}
+use Rattle.volume_files.specs.stored_files.Written.{disk_sizes}
 use Rattle.volume_files.proofs.DiskLists.{at-map, to-all}
 use Rattle.volume_files.proofs.flat_model.Bytes.{All-slice_get}
 use Rattle.volume_files.proofs.flat_model.Opened.{IsFile-at_opening}

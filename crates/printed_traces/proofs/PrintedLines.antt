@@ -13,9 +13,9 @@ use Rattle.volume_files.specs.vm_report.Trace.{disk_text, entries_text, file_tex
 use Rattle.volume_files.specs.vm_script.PlanSeen.{PlanSeen}
 use Rattle.volume_files.specs.vm_script.Processes.{kernel_parents}
 use Rattle.volume_files.specs.vm_script.Rules.{amounts_of}
-use Rattle.volume_files.specs.declared.showing.Heading.TheVariants.{Trace as traced}
+use Rattle.volume_files.specs.stored_files.declared.showing.Heading.TheVariants.{Trace as traced}
 use Rattle.volume_files.specs.Opened.{OpenedFile, infos_of, opened_flat_file, opening_flat, top_processes}
-use Rattle.volume_files.specs.Texts.{extent_pairs, files_from}
+use Rattle.volume_files.specs.stored_files.Texts.{extent_pairs, files_from}
 use Rattle.flat_state.specs.Cells.{extents_of}
 use Rattle.trace_text.specs.Traces.{traced_file_text, traced_files_text}
 use Rattle.trace_text.specs.TraceForm.{IsTrace}

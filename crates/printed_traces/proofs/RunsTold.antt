@@ -22,7 +22,7 @@ use Rattle.volume_files.specs.vm_script.Processes.{kernel_parents}
 use Rattle.volume_files.specs.vm_script.Rules.{amounts_of, broken_rule, has_wrong_disk, has_wrong_frames, is_from_to, is_wrong_file, lacks_disk}
 use Rattle.volume_files.specs.Attached.{AttachedSeen}
 use Rattle.volume_files.specs.Opened.{OpenedFile, opened_flat_file, opening_flat, top_processes, volume_number, volume_numbered}
-use Rattle.volume_files.specs.Written.{disk_sizes}
+use Rattle.volume_files.specs.stored_files.Written.{disk_sizes}
 use Rattle.volume_files.proofs.MountSpecs.{volume_is}
 use Rattle.volume_files.proofs.flat_model.Gap.{test_none}
 use Rattle.volume_files.proofs.flat_model.Opened.{IsFlat-opening}

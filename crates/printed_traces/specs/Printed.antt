@@ -12,10 +12,10 @@ use Rattle.volume_files.specs.vm_script.Processes.{kernel_parents}
 use Rattle.volume_files.specs.vm_script.Rules.{amounts_of, broken_rule}
 use Rattle.volume_files.specs.vnode_files.Files.{FilesSeen}
 use Rattle.volume_files.specs.Attached.{ArePlaced, AttachedSeen}
-use Rattle.volume_files.specs.declared.showing.Heading.TheVariants.{Trace as traced}
+use Rattle.volume_files.specs.stored_files.declared.showing.Heading.TheVariants.{Trace as traced}
 use Rattle.volume_files.specs.Opened.{OpenedFile, infos_of, opening_flat, top_processes}
-use Rattle.volume_files.specs.Texts.{extent_pairs, file_sections, trace_front}
-use Rattle.volume_files.specs.Written.{disk_sizes}
+use Rattle.volume_files.specs.stored_files.Texts.{extent_pairs, file_sections, trace_front}
+use Rattle.volume_files.specs.stored_files.Written.{disk_sizes}
 use Rattle.trace_text.specs.EntryForm.{IsLongNumber}
 use Rattle.trace_text.specs.Traces.{TracedFile, Trace}
 use Rattle.trace_check.specs.Checks.{IsChecked, IsTextFor}

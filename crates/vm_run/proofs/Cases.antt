@@ -17,18 +17,18 @@ use Rattle.vm_run.specs.declared.ending.Ending.TheVariants as ending
 use Rattle.vm_run.specs.declared.outcome.RunFault.{RunFault}
 use Rattle.vm_run.specs.Asked.{Given, Asked}
 use Rattle.volume_files.specs.Attached.{AttachedSeen, bare_disks}
-use Rattle.volume_files.specs.Closed.{SayTables, SaysTable}
+use Rattle.volume_files.specs.stored_files.Closed.{SayTables, SaysTable}
 use Rattle.vm_run.specs.Course.{IsReady, CloseEnds, CloseFails, ShowEnds, LacksTable}
 use Rattle.vm_run.specs.Ended.{HasLateCause}
 use Rattle.volume_files.specs.Opened.{OpenedFile, infos_of, opening_flat}
 use Rattle.vm_run.specs.Played.{IsStarted, KernelLeaves, LeftSeen, IsClosingFault}
-use Rattle.volume_files.specs.Written.{infos_made}
+use Rattle.volume_files.specs.stored_files.Written.{infos_made}
 use Rattle.vm_run.specs.Run.{CaseOf, Course, Outside, WasShown, Lacks, RunsThrough, WroteNoTable, WroteTablesBelow, middle_of, opening_of, opening_part, plan_opened, wrote_before}
-use Rattle.volume_files.specs.Texts.{Wrote, WroteAndFront, WroteAndPart, WroteFront, WroteOn, WrotePart}
+use Rattle.volume_files.specs.stored_files.Texts.{Wrote, WroteAndFront, WroteAndPart, WroteFront, WroteOn, WrotePart}
 use Rattle.vm_run.specs.AskedTexts.{middle_text, trace_opening}
-use Rattle.volume_files.specs.Written.{AreFilesBytes, AreOnlyRead, FaultCounts, HaveDisks, IsCountedSince, KeepsBlocks, OnlyReads, WriteTables, WroteTablesTo, disk_fault_counts, disk_sizes}
+use Rattle.volume_files.specs.stored_files.Written.{AreFilesBytes, AreOnlyRead, FaultCounts, HaveDisks, IsCountedSince, KeepsBlocks, OnlyReads, WriteTables, WroteTablesTo, disk_fault_counts, disk_sizes}
 use Rattle.volume_files.proofs.DiskLists.{at-map, mate, have-written, writes-refl}
-use Rattle.volume_files.proofs.WrittenTexts.{appended_nothing, risen_since, wrote_then}
+use Rattle.volume_files.proofs.stored_files.WrittenTexts.{appended_nothing, risen_since, wrote_then}
 use Rattle.vm_run.proofs.Sinks.{front_behind, on_behind, part_behind, still_wrote}
 use Rattle.vm_run.proofs.Courses.{all-tables, ended, begun, closes, closed-bytes, late-cause, no-table, numbers-new, sizes-same, some-tables, tables-below}
 
@@ -60,7 +60,7 @@ bytes-read : (mid new : List (ℕ × DiskSeen)) (infos : List FileInfo) (bytes :
 bytes-read mid new infos bytes r are = record {
   lengths = are.lengths;
   told = λ i k f info fi at own. let m = mate new mid (sym r.numbers) i f fi in
-      subst (λ content. IfSome content (λ blocks. Rattle.volume_files.specs.Opened.stored_bytes blocks info ≡ bytes k)) (sym (r.each i m.0 f m.1 fi).content)
+      subst (λ content. IfSome content (λ blocks. Rattle.volume_files.specs.stored_files.Closed.stored_bytes blocks info ≡ bytes k)) (sym (r.each i m.0 f m.1 fi).content)
       (are.told i k m.0 info m.1 at (own ∙ sym m.2));
 }
 

@@ -32,18 +32,19 @@ use Rattle.vm_core.specs.vm_world.State.{KernelState, FileMode, mode_of}
 use Rattle.vm_run.specs.declared.outcome.RunFault.{RunFault}
 use Rattle.vm_run.specs.Asked.{Given, Asked}
 use Rattle.volume_files.specs.Attached.{AttachedSeen, FileDisksTell, bare_disks}
-use Rattle.volume_files.specs.Closed.{SayTables, StoreFiles, flat_bytes, info_at, infos_in_flat, mode_in, modes_in}
+use Rattle.volume_files.specs.stored_files.Closed.{SayTables, StoreFiles, flat_bytes, info_at, infos_in_flat, mode_in, modes_in}
 use Rattle.vm_run.specs.Course.{IsReady}
 use Rattle.vm_run.specs.Ended.{End, HasLateCause, CountsReach}
 use Rattle.vm_core.specs.vm_world.Events.{IsUnkept}
 use Rattle.volume_files.proofs.DiskCounts.{counts-kinds, kinds-written}
 use Rattle.volume_files.specs.Handed.{kinds_of, HaveTold, HandsAll, HasSpecSize, block_told, volume_numbers, disk_handed, volumes_of, sizes_of}
-use Rattle.volume_files.specs.Opened.{IsVolumeAttached, OpenedFile, infos_of, names_of, opening_flat, setup_volumes, stored_bytes, volume_number}
+use Rattle.volume_files.specs.Opened.{IsVolumeAttached, OpenedFile, infos_of, names_of, opening_flat, setup_volumes, volume_number}
+use Rattle.volume_files.specs.stored_files.Closed.{stored_bytes}
 use Rattle.vm_run.specs.OnDisks.{AreUnkeptGiven, HoldFronts}
 use Rattle.vm_run.specs.Played.{IsStarted, KernelLeaves, LeftSeen, IsDiskOf}
-use Rattle.volume_files.specs.Written.{infos_made}
+use Rattle.volume_files.specs.stored_files.Written.{infos_made}
 use Rattle.vm_run.specs.Run.{AreClosedBytes, AreOpenedBytes, Begun, ClosesFiles, LeavesFiles, DisksTell, IsOpened, WroteNoTable, WroteTablesBelow, flat_opened, flat_closed}
-use Rattle.volume_files.specs.Written.{AreFilesBytes, HaveDisks, KeepsBlocks, WriteTables, WroteTablesTo, disk_sizes}
+use Rattle.volume_files.specs.stored_files.Written.{AreFilesBytes, HaveDisks, KeepsBlocks, WriteTables, WroteTablesTo, disk_sizes}
 use Rattle.volume_files.proofs.DiskLists.{at-map, in-map, mate, number, to-all, zip-back, sizes-by, sizes-written, low-disks, lookup-at}
 use Rattle.vm_run.proofs.AskedRules.{asked-rules}
 use Rattle.vm_run.proofs.KeptBytes.{stored-kept}

@@ -23,8 +23,8 @@ use Rattle.vm_run.specs.Course.{AskStops}
 use Rattle.vm_run.specs.Ended.{End, stop_end}
 use Rattle.volume_files.specs.Handed.{AreUncounted, HasOpeningCause, IsCountedBy, member_count}
 use Rattle.vm_run.specs.Run.{CaseOf, EndsBare, Outside, wrote_before}
-use Rattle.volume_files.specs.Texts.{Wrote}
-use Rattle.volume_files.proofs.WrittenTexts.{wrote_nothing}
+use Rattle.volume_files.specs.stored_files.Texts.{Wrote}
+use Rattle.volume_files.proofs.stored_files.WrittenTexts.{wrote_nothing}
 
 -- A run that stopped since its files weren't opened.
 pub record IsUnopened {D : Type 0} (back : HandedBack D) (s : Stop D) : Type 0 where

@@ -14,20 +14,20 @@ use Rattle.volume_files.specs.vm_script.PlanSeen.{PlanSeen}
 use Rattle.vm_run.specs.declared.ending.Ending.{Ending}
 use Rattle.vm_run.specs.declared.ending.Ending.TheVariants as ending
 use Rattle.command_line.specs.declared.options.Options.{Options}
-use Rattle.volume_files.specs.declared.showing.Heading.TheVariants.{Report}
-use Rattle.volume_files.specs.declared.showing.ShowStop.{ShowStop}
-use Rattle.volume_files.specs.declared.showing.ShowStop.TheVariants as show
+use Rattle.volume_files.specs.stored_files.declared.showing.Heading.TheVariants.{Report}
+use Rattle.volume_files.specs.stored_files.declared.showing.ShowStop.{ShowStop}
+use Rattle.volume_files.specs.stored_files.declared.showing.ShowStop.TheVariants as show
 use Rattle.vm_run.specs.Course.{CloseEnds, LacksTable, MiddleStops, ShowEnds, showing_stop}
-use Rattle.volume_files.specs.Texts.{Wrote, WroteFront, WrotePart}
+use Rattle.volume_files.specs.stored_files.Texts.{Wrote, WroteFront, WrotePart}
 use Rattle.vm_run.specs.AskedTexts.{files_or_none, middle_text}
-use Rattle.volume_files.specs.Closed.{SayTables}
-use Rattle.volume_files.specs.declared.closing.TableStop.{TableStop}
-use Rattle.volume_files.specs.declared.closing.TableStop.TheVariants as table
-use Rattle.volume_files.specs.Written.{disk_fault_counts, AreFilesBytes, IsShowStop, IsTableStop, WriteTables, WroteTablesTo}
+use Rattle.volume_files.specs.stored_files.Closed.{SayTables}
+use Rattle.volume_files.specs.stored_files.declared.closing.TableStop.{TableStop}
+use Rattle.volume_files.specs.stored_files.declared.closing.TableStop.TheVariants as table
+use Rattle.volume_files.specs.stored_files.Written.{disk_fault_counts, AreFilesBytes, IsShowStop, IsTableStop, WriteTables, WroteTablesTo}
 use Rattle.volume_files.specs.Handed.{kinds_of}
 use Rattle.volume_files.proofs.DiskCounts.{kinds-read, kinds-written}
-use Rattle.volume_files.proofs.WrittenTexts.{risen_since, wrote_then}
-use Rattle.volume_files.proofs.WrittenTexts.{front_more, front_then, part_more, part_then}
+use Rattle.volume_files.proofs.stored_files.WrittenTexts.{risen_since, wrote_then}
+use Rattle.volume_files.proofs.stored_files.WrittenTexts.{front_more, front_then, part_more, part_then}
 
 module _ (o : Options) (plan : PlanSeen) (H : List Entry) (infos : List FileInfo) (k0 k1 : SinkSeen) (old new : List (ℕ × DiskSeen)) where
   -- the text before the files wasn't written

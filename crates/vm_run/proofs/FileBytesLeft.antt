@@ -41,11 +41,11 @@ use Rattle.vm_core.specs.vm_world.World.{AllTell, file_name}
 use Rattle.vm_core.proofs.vm_world.FilePages.{file-in, length-files_with_pages, length-pages_from, page-in}
 use Rattle.vm_core.proofs.vm_world.PageNames.{file-apart, index-of, not-slot}
 use Rattle.volume_files.specs.Attached.{bare_disks}
-use Rattle.volume_files.specs.Closed.{StoreFiles, flat_bytes, info_at}
+use Rattle.volume_files.specs.stored_files.Closed.{StoreFiles, flat_bytes, info_at}
 use Rattle.volume_files.specs.Handed.{HaveTold}
-use Rattle.volume_files.specs.Opened.{stored_bytes}
+use Rattle.volume_files.specs.stored_files.Closed.{stored_bytes}
 use Rattle.vm_run.specs.Played.{LeftSeen}
-use Rattle.volume_files.specs.Written.{infos_made}
+use Rattle.volume_files.specs.stored_files.Written.{infos_made}
 use Rattle.vm_run.proofs.FileRecords.{history-left, record-at}
 use Rattle.vm_run.proofs.Returned.{Closes, all-tell, are-left, at-place}
 

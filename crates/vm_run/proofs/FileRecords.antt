@@ -20,11 +20,11 @@ use Rattle.vm_core.specs.vm_world.Pages.{contents_of}
 use Rattle.vm_core.specs.vm_world.State.{FileMode, Fixed, KernelState, mode_of}
 use Rattle.vm_core.specs.vm_world.StateFits.{StateFits}
 use Rattle.volume_files.specs.Attached.{bare_disks}
-use Rattle.volume_files.specs.Closed.{info_at, info_in_flat, infos_in_flat}
+use Rattle.volume_files.specs.stored_files.Closed.{info_at, info_in_flat, infos_in_flat}
 use Rattle.volume_files.specs.Handed.{HaveTold}
 use Rattle.vm_run.specs.Played.{LeftSeen}
-use Rattle.volume_files.specs.Written.{infos_made}
-use Rattle.volume_files.specs.Written.{HaveExtents, LieWell}
+use Rattle.volume_files.specs.stored_files.Written.{infos_made}
+use Rattle.volume_files.specs.stored_files.Written.{HaveExtents, LieWell}
 use Rattle.vm_run.proofs.Returned.{Closes, all-tell, are-left}
 
 -- what of a file never changes, by its record

@@ -8,10 +8,10 @@ use Rattle.volume_files.specs.vnode_files.declared.vnode.FileInfo.{FileInfo}
 use Rattle.volume_files.specs.vnode_files.Files.{FilesSeen, block_count}
 use Rattle.volume_files.specs.vnode_files.Layout.{LieOnDisk}
 use Rattle.volume_files.specs.vnode_files.Vnode.{VnodeSeen, page_blocks}
-use Rattle.volume_files.specs.Closed.{StoreFiles, info_at}
-use Rattle.volume_files.specs.Opened.{stored_bytes}
-use Rattle.volume_files.specs.Written.{infos_made}
-use Rattle.volume_files.specs.Written.{KeepsBlocks, LieWell, WriteTables}
+use Rattle.volume_files.specs.stored_files.Closed.{StoreFiles, info_at}
+use Rattle.volume_files.specs.stored_files.Closed.{stored_bytes}
+use Rattle.volume_files.specs.stored_files.Written.{infos_made}
+use Rattle.volume_files.specs.stored_files.Written.{KeepsBlocks, LieWell, WriteTables}
 use Rattle.volume_files.proofs.DiskLists.{mate}
 
 abbrev block_in : List (List ℕ) → ℕ → List ℕ

@@ -7,7 +7,7 @@ use Rattle.volume_files.specs.vm_types.declared.call.Entry.{Entry}
 use Rattle.volume_files.specs.flat_model.Flat.{Flat}
 use Rattle.volume_files.specs.flat_model.History.{replay}
 use Rattle.vm_core.specs.vm_world.mark_laws.Pages.{disk_place}
-use Rattle.volume_files.specs.Written.{KeepsBlocks, WriteTables}
+use Rattle.volume_files.specs.stored_files.Written.{KeepsBlocks, WriteTables}
 use Rattle.volume_files.proofs.DiskLists.{mate}
 use Rattle.vm_run.specs.OnDisks.{HasFailedThen, HasPageThen, HoldFronts, HoldsFront, WasZeros}
 

@@ -2,7 +2,7 @@
 use Rattle.std.proofs.Common.{◌≡◌, ◌≢◌, ℕ, List, Option, Some, None, refl, ap, ◌∙◌}
 use Rattle.volume_files.specs.block_device.DiskSeen.{DiskSeen}
 use Rattle.volume_files.specs.Handed.{block_told}
-use Rattle.volume_files.specs.Written.{KeepsBlocks}
+use Rattle.volume_files.specs.stored_files.Written.{KeepsBlocks}
 
 -- a block that isn't block 0
 pub told-kept : (old new : DiskSeen) (block : ℕ) → KeepsBlocks old new → block ≢ 0 → block_told new.content block ≡ block_told old.content block

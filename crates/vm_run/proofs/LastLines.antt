@@ -8,7 +8,7 @@ use Rattle.volume_files.specs.block_device.StreamSeen.{SinkSeen, text_with_more}
 use Rattle.vm_core.specs.Finish.{HistorySeen}
 use Rattle.vm_run.specs.declared.ending.Ending.{Ending}
 use Rattle.vm_run.specs.declared.ending.Ending.TheVariants as ending
-use Rattle.volume_files.specs.declared.showing.Heading.TheVariants.{Report}
+use Rattle.volume_files.specs.stored_files.declared.showing.Heading.TheVariants.{Report}
 use Rattle.vm_run.specs.Asked.{Given}
 use Rattle.vm_run.specs.declared.outcome.RunFault.{RunFault}
 use Rattle.vm_run.specs.declared.ending.TraceAnswer.{TraceAnswer}
@@ -21,8 +21,8 @@ use Rattle.volume_files.specs.Handed.{member_count}
 use Rattle.vm_run.specs.Reading.{IsConcluded}
 use Rattle.vm_run.specs.Run.{CaseOf, RunEnds, EndsBare, EndsTold, LacksLine, NoneFailed, Outside}
 use Rattle.vm_run.specs.Run.{middle_of, opening_of, opening_part, report_of, whole_text, wrote_all, wrote_before}
-use Rattle.volume_files.specs.Texts.{WroteOn, sections_before}
-use Rattle.volume_files.proofs.WrittenTexts.{appended_nothing}
+use Rattle.volume_files.specs.stored_files.Texts.{WroteOn, sections_before}
+use Rattle.volume_files.proofs.stored_files.WrittenTexts.{appended_nothing}
 use Rattle.vm_run.proofs.Sinks.{on_behind, still_front, still_part, still_wrote}
 
 -- ---- the sink

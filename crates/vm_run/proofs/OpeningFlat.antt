@@ -38,7 +38,8 @@ use Rattle.vm_core.proofs.vm_world.PageNames.{file-page, file-place, below-kept,
 use Rattle.vm_core.proofs.vm_world.Spaces.{EmptySpaces, empty-zeros, map-empty}
 use Rattle.vm_core.specs.State.{marked_processes}
 use Rattle.vm_core.proofs.Tops.{born-tops}
-use Rattle.volume_files.specs.Opened.{OpenedFile, stored_bytes, opened_flat_file, top_processes}
+use Rattle.volume_files.specs.Opened.{OpenedFile, opened_flat_file, top_processes}
+use Rattle.volume_files.specs.stored_files.Closed.{stored_bytes}
 use Rattle.vm_run.proofs.OpenedPages.{opened-pages, pages-agree}
 
 -- A FILE that was never written to since it was opened: its number, its record and where its blocks are.

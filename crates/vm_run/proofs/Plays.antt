@@ -29,7 +29,7 @@ use Rattle.block_runs.proofs.Goings.{top_begins}
 use Rattle.vm_run.specs.Alone.{is_alone}
 use Rattle.vm_run.specs.Lines.{AreOfOne, alone_caller, alone_kernel}
 use Rattle.vm_run.specs.Played.{HasPlayed, IsStarted, KernelLeaves, IsPlayable, LeftSeen}
-use Rattle.volume_files.specs.Written.{HaveDisks}
+use Rattle.volume_files.specs.stored_files.Written.{HaveDisks}
 use Rattle.vm_run.proofs.Alone.{alone-is}
 use Rattle.vm_run.proofs.BlockLines.{plays-one}
 use Rattle.vm_run.proofs.BlocksLeft.{fronts-left, places-left}

@@ -5,10 +5,10 @@ use Rattle.volume_files.specs.vm_types.declared.call.Entry.{Entry}
 use Rattle.volume_files.specs.vm_report.Trace.{entries_text}
 use Rattle.volume_files.specs.flat_model.Flat.{Flat}
 use Rattle.volume_files.specs.flat_model.History.{Legal}
-use Rattle.volume_files.specs.declared.showing.Heading.TheVariants.{Trace}
+use Rattle.volume_files.specs.stored_files.declared.showing.Heading.TheVariants.{Trace}
 use Rattle.volume_files.specs.Handed.{sizes_of}
 use Rattle.volume_files.specs.Opened.{infos_of}
-use Rattle.volume_files.specs.Texts.{Wrote, file_sections, trace_front}
+use Rattle.volume_files.specs.stored_files.Texts.{Wrote, file_sections, trace_front}
 use Rattle.trace_check.specs.Checks.{IsChecked, IsTextFor}
 use Rattle.trace_check.specs.declared.verdict.TraceFault.{TraceFault}
 use Rattle.trace_check.specs.declared.verdict.Verdict.{Verdict}

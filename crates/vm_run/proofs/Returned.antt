@@ -41,7 +41,7 @@ use Rattle.vm_core.proofs.Finishes.{still, disk-in-order, are-disks}
 use Rattle.volume_files.specs.Attached.{bare_disks}
 use Rattle.volume_files.specs.Handed.{HaveTold, IsSwapFor, swap_members}
 use Rattle.vm_run.specs.Played.{LeftSeen, IsDiskOf, DisksCameBack, IsClosingFault, KernelLeaves, SwapCameBack}
-use Rattle.volume_files.specs.Written.{HaveDisks}
+use Rattle.volume_files.specs.stored_files.Written.{HaveDisks}
 use Rattle.volume_files.proofs.DiskCounts.{same-maps}
 
 -- What a kernel in this state leaves as it is closed.

@@ -1,5 +1,5 @@
 -- A run that is ready, to its end.
-use Rattle.volume_files.proofs.ShownFiles.{reads_same as reads-refl}
+use Rattle.volume_files.proofs.stored_files.ShownFiles.{reads_same as reads-refl}
 use Rattle.std.proofs.Common.{◌≡◌, ℕ, zero, suc, ◌≤◌, ◌<◌, ◌^◌, List, [], ◌∷◌, length, map, refl, sym, ap, ◌∙◌, subst, arith}
 use Rattle.std.specs.Prelude.{All, Bool, IsTrue, None, Ok, Option}
 use Rattle.std.proofs.lemmas.List.{length-map}
@@ -22,18 +22,19 @@ use Rattle.vm_run.specs.declared.ending.Ending.TheVariants as ending
 use Rattle.command_line.specs.declared.options.Options.{Options}
 use Rattle.vm_run.specs.declared.outcome.RunFault.{RunFault}
 use Rattle.vm_run.specs.Asked.{Given, Asked, WasAsked}
-use Rattle.volume_files.specs.Attached.{ArePlaced, AttachedSeen, HaveVolumeNames, bare_disks}
-use Rattle.volume_files.specs.Closed.{info_at}
+use Rattle.volume_files.specs.Attached.{ArePlaced, AttachedSeen, bare_disks}
+use Rattle.volume_files.specs.stored_files.Written.{HaveVolumeNames}
+use Rattle.volume_files.specs.stored_files.Closed.{info_at}
 use Rattle.volume_files.specs.Handed.{AreUncounted}
 use Rattle.vm_run.specs.Course.{AreReadBytes, CloseEnds, IsReady}
 use Rattle.vm_run.specs.Ended.{End}
 use Rattle.volume_files.specs.Opened.{OpenedFile, infos_of, names_of, numbered_plan, opening_flat}
 use Rattle.vm_run.specs.Played.{IsPlayable, IsStarted, KernelLeaves, LeftSeen}
-use Rattle.volume_files.specs.Written.{infos_made}
+use Rattle.volume_files.specs.stored_files.Written.{infos_made}
 use Rattle.vm_run.specs.Run.{CaseOf, Outside, opening_part, wrote_before}
-use Rattle.volume_files.specs.Texts.{Wrote}
+use Rattle.volume_files.specs.stored_files.Texts.{Wrote}
 use Rattle.vm_run.specs.AskedTexts.{trace_opening}
-use Rattle.volume_files.specs.Written.{AreOnlyRead, HaveFirstBlocks, disk_sizes}
+use Rattle.volume_files.specs.stored_files.Written.{AreOnlyRead, HaveFirstBlocks, disk_sizes}
 use Rattle.volume_files.proofs.FileLineLemmas.{length-made}
 use Rattle.vm_run.proofs.PlayablePlans.{playable-named}
 use Rattle.vm_run.proofs.Cases.{close-case}

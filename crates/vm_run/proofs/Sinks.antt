@@ -2,8 +2,8 @@
 use Rattle.std.proofs.Common.{◌≡◌, ℕ, ◌≤◌, List, [], ◌++◌, length, take, sym, ap, ◌∙◌, arith, inl, inr}
 use Rattle.std.proofs.lemmas.List.{take_all, take-append-le}
 use Rattle.volume_files.specs.block_device.StreamSeen.{SinkSeen, text_with_more}
-use Rattle.volume_files.specs.Texts.{Wrote, WroteAndFront, WroteAndPart, WroteFront, WroteOn, WrotePart}
-use Rattle.volume_files.proofs.WrittenTexts.{risen_since, wrote_then}
+use Rattle.volume_files.specs.stored_files.Texts.{Wrote, WroteAndFront, WroteAndPart, WroteFront, WroteOn, WrotePart}
+use Rattle.volume_files.proofs.stored_files.WrittenTexts.{risen_since, wrote_then}
 
 -- a text behind another
 pub front_behind : (k0 k1 k2 : SinkSeen) (a b : List ℕ) → Wrote k0 k1 a → WroteFront k1 k2 b → WroteAndFront k0 k2 a b

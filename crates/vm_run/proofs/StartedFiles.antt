@@ -20,7 +20,7 @@ use Rattle.volume_files.specs.vm_script.PlanSeen.{PlanSeen}
 use Rattle.volume_files.specs.Attached.{AttachedSeen, ArePlaced}
 use Rattle.volume_files.specs.Opened.{OpenedFile, infos_of, setup_volumes}
 use Rattle.volume_files.specs.Placing.{HasOpened}
-use Rattle.volume_files.specs.Written.{disk_sizes}
+use Rattle.volume_files.specs.stored_files.Written.{disk_sizes}
 use Rattle.volume_files.proofs.DiskLists.{at-map}
 use Rattle.volume_files.proofs.AllPlaced.{no_opened, set-disk}
 use Rattle.printed_traces.proofs.FilesTold.{few-blocks}

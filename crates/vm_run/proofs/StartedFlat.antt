@@ -41,9 +41,10 @@ use Rattle.vm_core.proofs.vm_world.PageNames.{file-page, file-place, below-kept,
 use Rattle.vm_core.proofs.vm_world.Spaces.{EmptySpaces}
 use Rattle.volume_files.specs.vm_script.PlanSeen.{PlanSeen}
 use Rattle.volume_files.specs.vm_script.Rules.{amounts_of}
-use Rattle.volume_files.specs.Closed.{StoreFiles, info_at}
-use Rattle.volume_files.specs.Opened.{OpenedFile, stored_bytes, opened_flat_file, infos_of, opened_bytes_at, opening_flat, top_processes}
-use Rattle.volume_files.specs.Written.{LieWell, HaveDisks}
+use Rattle.volume_files.specs.stored_files.Closed.{StoreFiles, info_at}
+use Rattle.volume_files.specs.Opened.{OpenedFile, opened_flat_file, infos_of, opened_bytes_at, opening_flat, top_processes}
+use Rattle.volume_files.specs.stored_files.Closed.{stored_bytes}
+use Rattle.volume_files.specs.stored_files.Written.{LieWell, HaveDisks}
 use Rattle.vm_run.proofs.OpeningFlat.{IsAsOpened, opened-files, born-is, spaces-are, zeros-none}
 
 -- blocks that are whole

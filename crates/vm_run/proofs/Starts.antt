@@ -20,11 +20,12 @@ use Rattle.vm_core.specs.vm_world.State.{KernelState}
 use Rattle.vm_core.specs.vm_world.StateFits.{StateFits}
 use Rattle.volume_files.specs.declared.attaching.Attached.{Attached}
 use Rattle.vm_run.specs.declared.ending.Stop.{Stop}
-use Rattle.volume_files.specs.Attached.{AttachedSeen, ArePlaced, attached_seen, numbered_seen, bare_disks}
+use Rattle.volume_files.specs.Attached.{AttachedSeen, ArePlaced, attached_seen, bare_disks}
+use Rattle.volume_files.specs.stored_files.Written.{numbered_seen}
 use Rattle.volume_files.specs.Handed.{IsSwapFor}
 use Rattle.volume_files.specs.Opened.{OpenedFile, opening_flat, setup_volumes, volume_number}
 use Rattle.vm_run.specs.Played.{IsStarted, HasRoomForPlan}
-use Rattle.volume_files.specs.Written.{LieWell, HaveDisks}
+use Rattle.volume_files.specs.stored_files.Written.{LieWell, HaveDisks}
 use Rattle.vm_run.proofs.StartRules.{right-amounts, few-disks, disk-numbers}
 use Rattle.vm_run.proofs.StartedFlat.{IsStartedWith, started-fits, started-follows}
 

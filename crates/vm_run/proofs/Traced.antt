@@ -24,24 +24,26 @@ use Rattle.vm_run.specs.declared.ending.Ending.TheVariants as ending
 use Rattle.vm_run.specs.declared.ending.Stop.{Stop}
 use Rattle.command_line.specs.declared.options.Options.{Options}
 use Rattle.vm_run.specs.declared.outcome.RunFault.{RunFault}
-use Rattle.volume_files.specs.declared.showing.Heading.TheVariants.{Trace}
-use Rattle.volume_files.specs.declared.showing.ShowStop.{ShowStop}
-use Rattle.volume_files.specs.declared.showing.ShowStop.TheVariants as show
+use Rattle.volume_files.specs.stored_files.declared.showing.Heading.TheVariants.{Trace}
+use Rattle.volume_files.specs.stored_files.declared.showing.ShowStop.{ShowStop}
+use Rattle.volume_files.specs.stored_files.declared.showing.ShowStop.TheVariants as show
 use Rattle.vm_run.specs.Asked.{Given, Asked, WasAsked}
-use Rattle.volume_files.specs.Attached.{ArePlaced, AttachedSeen, FileDisksTell, HasItsBytes, bare_disks, numbered_seen}
-use Rattle.volume_files.specs.Closed.{StoreFiles, info_at}
+use Rattle.volume_files.specs.Attached.{ArePlaced, AttachedSeen, FileDisksTell, HasItsBytes, bare_disks}
+use Rattle.volume_files.specs.stored_files.Written.{numbered_seen}
+use Rattle.volume_files.specs.stored_files.Closed.{StoreFiles, info_at}
 use Rattle.vm_run.specs.Course.{AreReadBytes, TraceStops, opening_stop}
 use Rattle.vm_run.specs.Ended.{End, stop_end}
 use Rattle.volume_files.proofs.DiskCounts.{counts-kinds, kinds-read}
 use Rattle.volume_files.specs.Handed.{AreUncounted, HandsAll, HasDiskCause, HasSpecSize, HaveSpecSizes, HaveTold, IsCountedBy, volumes_of, sizes_of, AreWrittenAt, IsSwapAsGiven, block_told}
-use Rattle.volume_files.specs.Opened.{OpenedFile, opened_bytes_at, infos_of, line_files_of, numbered_plan, setup_volumes, stored_bytes}
-use Rattle.volume_files.specs.Written.{infos_made}
+use Rattle.volume_files.specs.Opened.{OpenedFile, opened_bytes_at, infos_of, line_files_of, numbered_plan, setup_volumes}
+use Rattle.volume_files.specs.stored_files.Closed.{stored_bytes}
+use Rattle.volume_files.specs.stored_files.Written.{infos_made}
 use Rattle.vm_run.specs.Run.{AreOpenedBytes, CaseOf, IsOpened, Outside, opening_part, wrote_before}
-use Rattle.volume_files.specs.Texts.{IsPageUnread, Wrote, WroteFront, WrotePart, file_sections, sections_before, trace_front}
+use Rattle.volume_files.specs.stored_files.Texts.{IsPageUnread, Wrote, WroteFront, WrotePart, file_sections, sections_before, trace_front}
 use Rattle.vm_run.specs.AskedTexts.{trace_opening}
-use Rattle.volume_files.specs.Written.{AreFilesBytes, AreOnlyRead, HaveFirstBlocks, FaultCounts, IsCountedSince, TraceShows, disk_sizes, open_fault_counts}
+use Rattle.volume_files.specs.stored_files.Written.{AreFilesBytes, AreOnlyRead, HaveFirstBlocks, FaultCounts, IsCountedSince, TraceShows, disk_sizes, open_fault_counts}
 use Rattle.vm_run.proofs.Courses.{files-told, spec-size}
-use Rattle.volume_files.proofs.WrittenTexts.{wrote_front}
+use Rattle.volume_files.proofs.stored_files.WrittenTexts.{wrote_front}
 use Rattle.volume_files.proofs.FaultCauses.{if-counted}
 use Rattle.volume_files.proofs.DiskLists.{at-map, have-read, in-map, lookup-at, low-disks, mate, same-image, sizes-by, zip-back, to-all}
 use Rattle.volume_files.proofs.GivenFiles.{comes-sizes}

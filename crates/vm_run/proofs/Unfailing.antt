@@ -3,11 +3,11 @@ use Rattle.std.proofs.Common.{◌≡◌, refl, subst, sym}
 use Rattle.std.specs.Prelude.{Result, Ok, Err}
 use Rattle.volume_files.specs.block_device.OpenSeen.{OpenFaultSeen}
 use Rattle.volume_files.specs.block_device.declared.disk_fault.DiskFault.{DiskFault}
-use Rattle.volume_files.specs.declared.showing.ShowStop.{ShowStop}
-use Rattle.volume_files.specs.declared.showing.ShowStop.TheVariants as show
+use Rattle.volume_files.specs.stored_files.declared.showing.ShowStop.{ShowStop}
+use Rattle.volume_files.specs.stored_files.declared.showing.ShowStop.TheVariants as show
 use Rattle.volume_files.specs.declared.stops.OpenStop.{OpenStop}
 use Rattle.volume_files.specs.declared.stops.OpenStop.TheVariants as halt
-use Rattle.volume_files.specs.Unfailed.{UnlessCut}
+use Rattle.volume_files.specs.stored_files.Uncut.{UnlessCut}
 use Rattle.vm_run.specs.declared.ending.Ending.{Ending}
 use Rattle.vm_run.specs.declared.ending.Ending.TheVariants as ending
 use Rattle.vm_run.specs.Course.{UnlessEnded, opening_stop, showing_stop}

@@ -6,8 +6,8 @@ use Rattle.volume_files.specs.block_device.StreamSeen.{SinkSeen}
 use Rattle.volume_files.specs.vm_types.declared.call.Entry.{Entry}
 use Rattle.volume_files.specs.vm_script.PlanSeen.{PlanSeen}
 use Rattle.volume_files.specs.vm_report.Report.{process_sections}
-use Rattle.volume_files.specs.Texts.{Wrote, WroteFront, WrotePart}
-use Rattle.volume_files.proofs.WrittenTexts.{front_more, front_then, part_more, part_then, risen_since, wrote_front, wrote_nothing, wrote_then}
+use Rattle.volume_files.specs.stored_files.Texts.{Wrote, WroteFront, WrotePart}
+use Rattle.volume_files.proofs.stored_files.WrittenTexts.{front_more, front_then, part_more, part_then, risen_since, wrote_front, wrote_nothing, wrote_then}
 use Rattle.vm_run.specs.declared.ending.Ending.{Ending}
 use Rattle.vm_run.specs.declared.ending.Ending.TheVariants as ending
 use Rattle.vm_run.specs.AskedTexts.{sections_or_summary, summary_or_none}

@@ -6,8 +6,8 @@ use Rattle.volume_files.specs.vm_report.Report.{process_sections}
 use Rattle.volume_files.specs.vm_report.Summary.{summary}
 use Rattle.volume_files.specs.vm_report.Trace.{entries_text}
 use Rattle.volume_files.specs.vm_script.PlanSeen.{PlanSeen}
-use Rattle.volume_files.specs.declared.showing.Heading.TheVariants.{Report, Trace}
-use Rattle.volume_files.specs.Texts.{file_sections, trace_front}
+use Rattle.volume_files.specs.stored_files.declared.showing.Heading.TheVariants.{Report, Trace}
+use Rattle.volume_files.specs.stored_files.Texts.{file_sections, trace_front}
 use Rattle.command_line.specs.declared.options.Options.{Options}
 
 -- The opening part of a trace, where one is asked for.

@@ -21,21 +21,21 @@ use Rattle.vm_run.specs.TraceChecks.{WasChecked}
 use Rattle.command_line.specs.declared.options.Options.{Options}
 use Rattle.vm_run.specs.declared.outcome.RunFault.{RunFault}
 use Rattle.volume_files.specs.block_device.OpenSeen.{OpenFaultSeen}
-use Rattle.volume_files.specs.declared.showing.Heading.TheVariants.{Report, Trace}
-use Rattle.volume_files.specs.declared.showing.ShowStop.{ShowStop}
-use Rattle.volume_files.specs.declared.showing.ShowStop.TheVariants as show
+use Rattle.volume_files.specs.stored_files.declared.showing.Heading.TheVariants.{Report, Trace}
+use Rattle.volume_files.specs.stored_files.declared.showing.ShowStop.{ShowStop}
+use Rattle.volume_files.specs.stored_files.declared.showing.ShowStop.TheVariants as show
 use Rattle.vm_run.specs.Asked.{Given, Asked, FailsToRead, WasAsked}
 use Rattle.volume_files.specs.Attached.{AttachedSeen, ArePlaced, FileDisksTell, bare_disks}
-use Rattle.volume_files.specs.Closed.{SayTables}
+use Rattle.volume_files.specs.stored_files.Closed.{SayTables}
 use Rattle.vm_run.specs.Ended.{stop_end}
 use Rattle.vm_core.specs.vm_world.State.{KernelState}
 use Rattle.volume_files.specs.Handed.{AreUncounted, member_count}
 use Rattle.volume_files.specs.Opened.{OpenedFile, infos_of, numbered_plan, opening_flat}
 use Rattle.vm_run.specs.Played.{HasPlayed, IsPlayable, IsStarted}
 use Rattle.vm_run.specs.Run.{CaseOf, NoneFailed, Outside, opening_part, wrote_before}
-use Rattle.volume_files.specs.Texts.{Wrote, WroteFront, WroteOn, WrotePart, IsPageUnread, sections_before, trace_front}
+use Rattle.volume_files.specs.stored_files.Texts.{Wrote, WroteFront, WroteOn, WrotePart, IsPageUnread, sections_before, trace_front}
 use Rattle.vm_run.specs.AskedTexts.{files_or_none, middle_text, trace_opening}
-use Rattle.volume_files.specs.Written.{AreFilesBytes, AreOnlyRead, IsCountedSince, WriteTables, WroteTablesTo, disk_fault_counts, disk_sizes, open_fault_counts}
+use Rattle.volume_files.specs.stored_files.Written.{AreFilesBytes, AreOnlyRead, IsCountedSince, WriteTables, WroteTablesTo, disk_fault_counts, disk_sizes, open_fault_counts}
 
 -- Bytes of the files, each as long as its record says; where the files' disks tell, those with which the files are opened.
 pub record AreReadBytes (files : List OpenedFile) (disks : List (ℕ × DiskSeen)) (bytes : ℕ → List ℕ) : Type 0 where

@@ -29,9 +29,9 @@ use Rattle.vm_kernel.specs.declared.starting.Room.{Room}
 use Rattle.vm_core.specs.vm_world.mark_laws.Pages.{disk_place}
 use Rattle.vm_run.specs.OnDisks.{HoldFronts}
 use Rattle.volume_files.specs.Attached.{bare_disks}
-use Rattle.volume_files.specs.Closed.{StoreFiles, infos_in_flat, flat_bytes}
+use Rattle.volume_files.specs.stored_files.Closed.{StoreFiles, infos_in_flat, flat_bytes}
 use Rattle.volume_files.specs.Handed.{HaveTold, block_told}
-use Rattle.volume_files.specs.Written.{infos_made, LieWell, HaveDisks, HaveExtents, HasLastFault, disk_fault_counts}
+use Rattle.volume_files.specs.stored_files.Written.{infos_made, LieWell, HaveDisks, HaveExtents, HasLastFault, disk_fault_counts}
 use Rattle.vm_core.specs.page_store.Notes.{no_notes}
 use Rattle.volume_files.specs.vm_script.Rules.{amounts_of}
 

@@ -18,7 +18,7 @@ use Rattle.command_line.specs.declared.options.Options.{Options}
 use Rattle.vm_run.specs.Asked.{by_plan, script_told}
 use Rattle.vm_run.specs.Course.{IsReadPlan}
 use Rattle.vm_run.specs.Ending.{last_line_of}
-use Rattle.volume_files.specs.Texts.{WroteOn}
+use Rattle.volume_files.specs.stored_files.Texts.{WroteOn}
 
 -- What is said unless the source failed.
 abbrev pub UnlessUnread : {T : Type 0} → Result T Ending → Type 0 → Type 0

@@ -27,16 +27,16 @@ use Rattle.vm_run.specs.declared.ending.TraceEnd.{TraceEnd}
 use Rattle.vm_run.specs.declared.ending.TraceEnd.TheVariants as ends
 use Rattle.vm_run.specs.declared.outcome.RunFault.{RunFault}
 use Rattle.vm_run.specs.declared.outcome.RunFault.TheVariants as fault
-use Rattle.volume_files.specs.declared.showing.Heading.TheVariants.{Report, Trace}
+use Rattle.volume_files.specs.stored_files.declared.showing.Heading.TheVariants.{Report, Trace}
 use Rattle.vm_run.specs.Asked.{Given, Asked, FailsToRead, WasAsked, run_request}
-use Rattle.volume_files.specs.Closed.{StoreFiles, SaysItsTable, SayTables, infos_in_flat, flat_bytes, modes_in}
+use Rattle.volume_files.specs.stored_files.Closed.{StoreFiles, SaysItsTable, SayTables, infos_in_flat, flat_bytes, modes_in}
 use Rattle.vm_run.specs.Ending.{status_of, fault_of, last_line_of}
 use Rattle.vm_run.specs.Ended.{End, HasLateCause, CountsReach}
 use Rattle.vm_run.specs.OnDisks.{AreUnkeptGiven, HoldFronts}
 use Rattle.volume_files.specs.Handed.{AreGivenWhere, AreUncounted, AreWrittenAt, HaveTold, HandsNone, HandsFront, HandsAll, HasDiskCause}
 use Rattle.volume_files.specs.Handed.{HasOpeningCause, HasRefusalCause, StopsAttaching, volumes_of, sizes_of, member_count}
 use Rattle.volume_files.specs.Opened.{line_files_of, ComesTo, OpenedFile, opened_files, infos_of, names_of, numbered_plan, opening_flat}
-use Rattle.volume_files.specs.Texts.{Wrote, WroteAndFront, WroteAndPart, WroteFront, WroteOn, WrotePart, IsPageUnread, sections_before, trace_front}
+use Rattle.volume_files.specs.stored_files.Texts.{Wrote, WroteAndFront, WroteAndPart, WroteFront, WroteOn, WrotePart, IsPageUnread, sections_before, trace_front}
 use Rattle.vm_run.specs.AskedTexts.{files_or_none, middle_text, trace_opening}
 use Rattle.vm_run.specs.TraceChecks.{AnswersText, WasChecked, WroteAnswer, StopsInAnswer, most_trace_bytes}
 

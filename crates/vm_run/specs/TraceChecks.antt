@@ -12,7 +12,7 @@ use Rattle.vm_run.specs.declared.ending.TraceAnswer.TheVariants as answer
 use Rattle.vm_run.specs.declared.ending.TraceEnd.TheVariants as ends
 use Rattle.vm_run.specs.Asked.{Given}
 use Rattle.vm_run.specs.Ending.{answer_text}
-use Rattle.volume_files.specs.Texts.{Wrote, WroteOn, WrotePart}
+use Rattle.volume_files.specs.stored_files.Texts.{Wrote, WroteOn, WrotePart}
 
 -- The most bytes that a trace may have.
 abbrev pub most_trace_bytes : ℕ

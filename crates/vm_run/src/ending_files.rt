@@ -4,14 +4,15 @@ ghost use Rattle.volume_files.specs.block_device.Counts.{HasRisen};
 ghost use Rattle.vm_core.specs.page_store.Bays.{pairs_seen};
 ghost use Rattle.volume_files.specs.vm_report.Faults.{disk_fault_text};
 ghost use Rattle.volume_files.specs.vm_types.WellFormed.{IsWellFormed};
-ghost use Rattle.volume_files.specs.Attached.{HaveVolumeNames, bare_disks};
+ghost use Rattle.volume_files.specs.Attached.{bare_disks};
+ghost use Rattle.volume_files.specs.stored_files.Written.{HaveVolumeNames};
 ghost use Rattle.volume_files.specs.Handed.{member_count};
 ghost use Rattle.volume_files.specs.block_device.DiskSeen.{DiskSeen};
 ghost use Rattle.vm_run.specs.Course.{CloseEnds, CloseFails, ShowEnds, TablesEnd, showing_stop};
 ghost use Rattle.vm_run.specs.declared.ending.Ending.TheVariants.{Memory};
-ghost use Rattle.volume_files.specs.Written.{infos_made};
+ghost use Rattle.volume_files.specs.stored_files.Written.{infos_made};
 ghost use Rattle.vm_run.specs.AskedTexts.{middle_text};
-ghost use Rattle.volume_files.specs.Written.{LieWell, HaveDisks, HaveExtents, HaveFirstBlocks, AreOnlyRead, WriteTables};
+ghost use Rattle.volume_files.specs.stored_files.Written.{LieWell, HaveDisks, HaveExtents, HaveFirstBlocks, AreOnlyRead, WriteTables};
 
 use crate::ending::{Ending, Stop};
 use crate::playing::Played;

@@ -4,7 +4,8 @@ ghost use Rattle.volume_files.specs.block_device.declared.rack.Spec.{Spec};
 ghost use Rattle.volume_files.specs.joined_disk.JoinedSeen.{joined_seen};
 ghost use Rattle.volume_files.specs.volume_disks.Singles.{single_seen};
 ghost use Rattle.vm_run.specs.Asked.{Given, Asked, WasAsked, given_of};
-ghost use Rattle.volume_files.specs.Attached.{AreAttached, ArePlaced, HasRooms, attached_seen, bare_disks, numbered_seen};
+ghost use Rattle.volume_files.specs.Attached.{AreAttached, ArePlaced, HasRooms, attached_seen, bare_disks};
+ghost use Rattle.volume_files.specs.stored_files.Written.{numbered_seen};
 ghost use Rattle.vm_run.specs.Course.{HasCase, IsReady, IsReadPlan, AreReadBytes, Traces, opening_stop};
 ghost use Rattle.volume_files.specs.Handed.{AreUncounted, member_count};
 ghost use Rattle.volume_files.specs.Opened.{OpenedFile, numbered_plan};
@@ -14,7 +15,7 @@ ghost use Rattle.vm_run.specs.Course.{UnlessEnded};
 ghost use Rattle.vm_run.specs.declared.ending.Ending.TheVariants.{Memory};
 ghost use Rattle.std.specs.Prelude.{Ok, None, [], length, option_map, vec_capacity};
 ghost use Rattle.volume_files.specs.vm_script.Rules.{broken_rule};
-ghost use Rattle.volume_files.specs.Written.{AreOnlyRead};
+ghost use Rattle.volume_files.specs.stored_files.Written.{AreOnlyRead};
 
 use crate::ending::{Ending, Stop, stop_unopened};
 use command_line::Options;

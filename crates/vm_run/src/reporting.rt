@@ -2,7 +2,7 @@
 ghost use Rattle.std.specs.Prelude.{◌≡◌, ◌≤◌, ◌++◌, ◌<◌, ◌^◌, [], length, All, IfErr, OnOk};
 ghost use Rattle.volume_files.specs.vm_report.Report.{process_sections};
 ghost use Rattle.volume_files.specs.vm_types.WellFormed.{IsWellFormed};
-ghost use Rattle.volume_files.specs.Texts.{Wrote};
+ghost use Rattle.volume_files.specs.stored_files.Texts.{Wrote};
 ghost use Rattle.vm_run.specs.AskedTexts.{before_sections, middle_text};
 ghost use Rattle.vm_run.specs.Course.{KeptBack, MiddleStops, UnlessEnded};
 

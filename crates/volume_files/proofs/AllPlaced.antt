@@ -24,13 +24,15 @@ use Rattle.vm_report.specs.vm_script.PlanSeen.{PlanSeen}
 use Rattle.vm_report.specs.vm_script.Rules.{broken_rule, amounts_of}
 use Rattle.vm_report.specs.vm_script.Sound.{IsSoundSetup}
 use Rattle.volume_files.specs.declared.stops.Refusal.TheVariants as refusal
-use Rattle.volume_files.specs.Attached.{AreMounted, ArePlaced, HasItsBytes, numbered_seen, bare_disks}
-use Rattle.volume_files.specs.Closed.{StoreFiles, info_at}
+use Rattle.volume_files.specs.Attached.{AreMounted, ArePlaced, HasItsBytes, bare_disks}
+use Rattle.stored_files.specs.Written.{numbered_seen}
+use Rattle.stored_files.specs.Closed.{StoreFiles, info_at}
 use Rattle.volume_files.specs.Handed.{HandsAll, IsSwapAsGiven, IsSwapFor, SpareBlock}
-use Rattle.volume_files.specs.Opened.{OpenedFile, infos_of, opened_bytes_at, setup_volumes, if_few, with_line_files, stored_bytes}
+use Rattle.volume_files.specs.Opened.{OpenedFile, infos_of, opened_bytes_at, setup_volumes, if_few, with_line_files}
+use Rattle.stored_files.specs.Closed.{stored_bytes}
 use Rattle.volume_files.specs.Placing.{KeepThere, Distinct, PlacesFiles, RemainThere, WroteEach, attached_numbers, found_files}
 use Rattle.volume_files.specs.Placing.{line_files, sizes_by_number, with_file_pages}
-use Rattle.volume_files.specs.Written.{disk_sizes, HaveFirstBlocks}
+use Rattle.stored_files.specs.Written.{disk_sizes, HaveFirstBlocks}
 use Rattle.volume_files.proofs.DiskCounts.{counts-kinds, counts-mounted, kinds-same}
 use Rattle.volume_files.proofs.FoundLemmas.{AllBlocks, found-good, found-stored, own-disk}
 use Rattle.volume_files.proofs.GivenFiles.{comes-to}

@@ -8,10 +8,11 @@ use Rattle.block_device.specs.declared.rack.Spec.{Spec}
 use Rattle.volume_disks.specs.Volumes.{spec_count}
 use Rattle.volume_disks.specs.declared.volume_spec.VolumeSpec.{VolumeSpec}
 use Rattle.volume_format.specs.Table.{TableSeen}
-use Rattle.volume_files.specs.Attached.{AreMounted, bare_disks, numbered_seen}
+use Rattle.volume_files.specs.Attached.{AreMounted, bare_disks}
+use Rattle.stored_files.specs.Written.{numbered_seen}
 use Rattle.volume_files.specs.Handed.{disk_counts, kinds_of, member_count, members_of, swap_members}
 use Rattle.volume_files.specs.Placing.{RemainThere}
-use Rattle.volume_files.specs.Written.{AreOnlyRead, WriteTables}
+use Rattle.stored_files.specs.Written.{AreOnlyRead, WriteTables}
 use Rattle.volume_files.proofs.HandLemmas.{SameDisks, same-disks}
 use Rattle.volume_files.proofs.Unfailing.{bare-handed, swap-handed}
 

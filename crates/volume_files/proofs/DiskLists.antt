@@ -1,5 +1,5 @@
 -- Lists of disks whose numbers and sizes stay.
-use Rattle.volume_files.proofs.TablesWritten.{keeps_same as blocks-refl}
+use Rattle.stored_files.proofs.TablesWritten.{keeps_same as blocks-refl}
 use Rattle.std.proofs.Common.{◌≡◌, ℕ, zero, suc, ◌≤◌, ◌<◌, ◌==◌, true, List, [], ◌∷◌, length, map, refl, sym, ap, ◌∙◌, subst, arith, inl, inr}
 use Rattle.std.specs.Prelude.{All, Some, option_map, slice_get, slice_index_or, zip, cond}
 use Rattle.std.specs.List.{AllByRecursion}
@@ -11,11 +11,11 @@ use Rattle.std.proofs.lemmas.Option.{none-some, same_Some, slice_get-map, slice_
 use Rattle.block_device.specs.DiskSeen.{DiskSeen}
 use Rattle.volume_format.specs.vnode_files.Files.{FilesSeen}
 use Rattle.vm_report.specs.vm_script.PlanSeen.{PlanSeen}
-use Rattle.volume_files.specs.Attached.{paired_seen}
+use Rattle.stored_files.specs.Written.{paired_seen}
 use Rattle.volume_files.specs.Attached.{bare_disks}
 use Rattle.volume_files.specs.Handed.{volume_numbers}
 use Rattle.volume_files.proofs.HandLemmas.{plan-numbers}
-use Rattle.volume_files.specs.Written.{HaveDisks, HaveFirstBlocks, KeepsBlocks, WriteTables, AreOnlyRead, disk_sizes}
+use Rattle.stored_files.specs.Written.{HaveDisks, HaveFirstBlocks, KeepsBlocks, WriteTables, AreOnlyRead, disk_sizes}
 
 -- the members of a list and of its image
 pub at-map : {A B : Type 0} (f : A → B) (xs : List A) (i : ℕ) (x : A) → slice_get xs i ≡ Some x → slice_get (map f xs) i ≡ Some (f x)

@@ -16,8 +16,10 @@ use Rattle.volume_format.specs.vnode_files.Vnode.{page_blocks}
 use Rattle.volume_format.proofs.vnode_files.BlockLemmas.{length-page_blocks}
 use Rattle.volume_format.specs.Table.{TableSeen, no_entry}
 use Rattle.volume_format.specs.Volume.{IsVolumeTable, IsVolumeFile, IsVolumeName}
-use Rattle.volume_files.specs.Attached.{AreMounted, HasItsBytes, numbered_seen}
-use Rattle.volume_files.specs.Opened.{OpenedFile, stored_bytes}
+use Rattle.volume_files.specs.Attached.{AreMounted, HasItsBytes}
+use Rattle.stored_files.specs.Written.{numbered_seen}
+use Rattle.volume_files.specs.Opened.{OpenedFile}
+use Rattle.stored_files.specs.Closed.{stored_bytes}
 use Rattle.volume_files.specs.Placing.{Distinct, content_bytes, found_file, found_files}
 use Rattle.volume_files.proofs.LawLemmas.{GoodFiles}
 use Rattle.volume_files.proofs.LineLemmas.{Stored}

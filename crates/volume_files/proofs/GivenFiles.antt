@@ -14,7 +14,8 @@ use Rattle.volume_format.specs.vnode_files.Files.{block_count}
 use Rattle.volume_format.specs.Table.{TableSeen}
 use Rattle.vm_report.specs.vm_script.PlanSeen.{PlanSeen}
 use Rattle.volume_files.specs.declared.stops.Refusal.{Refusal}
-use Rattle.volume_files.specs.Attached.{AreMounted, IsMounted, bare_disks, numbered_seen}
+use Rattle.volume_files.specs.Attached.{AreMounted, IsMounted, bare_disks}
+use Rattle.stored_files.specs.Written.{numbered_seen}
 use Rattle.volume_files.specs.Handed.{AreAsGiven, volume_numbers, sizes_of}
 use Rattle.volume_files.specs.Mounting.{Holds}
 use Rattle.volume_files.specs.Opened.{AreTablesRead, ComesTo, IsTableRead, OpenedFile, IsVolumeAttached, RackSays, setup_volumes, volume_content, if_few, mounted_infos, size_among, table_on, with_line_files}

@@ -23,7 +23,8 @@ use Rattle.volume_format.specs.Table.{TableSeen}
 use Rattle.vm_report.specs.vm_script.declared.plan.SetupLine.{SetupLine}
 use Rattle.vm_report.specs.vm_script.PlanSeen.{PlanSeen}
 use Rattle.volume_files.specs.declared.stops.Refusal.{Refusal}
-use Rattle.volume_files.specs.Attached.{AreMounted, numbered_seen, bare_disks}
+use Rattle.volume_files.specs.Attached.{AreMounted, bare_disks}
+use Rattle.stored_files.specs.Written.{numbered_seen}
 use Rattle.volume_files.specs.Handed.{HaveSpecSizes, HasSpecSize, volume_numbers}
 use Rattle.volume_files.specs.Opened.{IsVolumeAttached, OpenedFile, setup_volumes, size_held, mounted_files, if_few, volume_blocks, volume_number, volume_numbered, volumes_held}
 use Rattle.volume_files.specs.Opened.{with_line_files, opened_files}

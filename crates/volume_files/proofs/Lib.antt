@@ -2,16 +2,6 @@ pub mod DiskLists
 pub mod NumbersDiffer
 pub mod FaultCauses
 pub mod DiskCounts
-pub mod WrittenTexts
-pub mod FilePieces
-pub mod ShownLines
-pub mod ShownPages
-pub mod ShownFiles
-pub mod ShownSections
-pub mod TraceTexts
-pub mod TableFiles
-pub mod EachDisk
-pub mod TablesWritten
 pub mod PageLemmas
 pub mod LineLemmas
 pub mod ClearLemmas
@@ -44,3 +34,4 @@ pub use Rattle.volume_format.proofs.vnode_files as vnode_files
 pub use Rattle.vm_report.proofs.flat_model as flat_model
 pub use Rattle.vm_report.proofs.vm_script as vm_script
 pub use Rattle.vm_report.proofs as vm_report
+pub use Rattle.stored_files.proofs as stored_files

@@ -20,7 +20,8 @@ use Rattle.vm_report.specs.vm_script.declared.plan.SetupAct.TheVariants as given
 use Rattle.vm_report.specs.vm_script.declared.plan.SetupLine.{SetupLine}
 use Rattle.volume_files.specs.declared.stops.Refusal.{Refusal}
 use Rattle.volume_files.specs.declared.stops.Refusal.TheVariants as refusal
-use Rattle.volume_files.specs.Opened.{OpenedFile, infos_of, names_of, new_file, stored_bytes, extents_of_disk, is_free_run, place_for, with_placed, with_line_file, with_line_files}
+use Rattle.volume_files.specs.Opened.{OpenedFile, infos_of, names_of, new_file, extents_of_disk, is_free_run, place_for, with_placed, with_line_file, with_line_files}
+use Rattle.stored_files.specs.Closed.{stored_bytes}
 use Rattle.volume_files.specs.Placing.{with_file, with_file_pages, with_block_pages, filled_pages}
 use Rattle.volume_files.proofs.PageLemmas.{set_pages, with_pages-told, with_pages-untold, stored_beside, stored_written, length-filled, length-set_pages}
 

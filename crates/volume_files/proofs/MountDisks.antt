@@ -25,7 +25,7 @@ use Rattle.volume_files.specs.Mounting.{Holds, IsGiven, SaysTableRead}
 use Rattle.volume_files.specs.Opened.{HasVolumeBlocks, IsVolumeAttached, OpenedFile, joined_size, mounted_file, sizes_refused, table_read, table_of_read, table_on, told_table, unless_refused}
 use Rattle.volume_files.specs.Opened.{volume_blocks, volume_number, with_mounted, mounted_files}
 use Rattle.volume_files.proofs.HeldVolumes.{told_volume}
-use Rattle.volume_files.specs.Written.{OnlyReads}
+use Rattle.stored_files.specs.Written.{OnlyReads}
 use Rattle.volume_files.proofs.MountSpecs.{AreLow}
 
 -- Each disk was attached by the spec at its place.

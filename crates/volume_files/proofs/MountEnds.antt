@@ -11,7 +11,8 @@ use Rattle.vm_report.specs.vm_script.Rules.{amounts_of}
 use Rattle.volume_files.specs.declared.stops.OpenStop.{OpenStop}
 use Rattle.volume_files.specs.declared.stops.OpenStop.TheVariants as halt
 use Rattle.volume_files.specs.declared.stops.HandedBack.{HandedBack}
-use Rattle.volume_files.specs.Attached.{StopCause, StopsEarly, bare_disks, numbered_seen}
+use Rattle.volume_files.specs.Attached.{StopCause, StopsEarly, bare_disks}
+use Rattle.stored_files.specs.Written.{numbered_seen}
 use Rattle.volume_files.specs.Handed.{AreUntouched, HandsBelow, HandsUnracked, IsCountedBy, IsSwapAsGiven, IsSwapFor, disk_handed}
 use Rattle.volume_files.specs.Mounting.{Holds, HaltsNumber, Halts, UngivenCause}
 use Rattle.volume_files.specs.Opened.{volume_number}

@@ -14,7 +14,8 @@ use Rattle.volume_format.specs.vnode_files.declared.vnode.FileInfo.{FileInfo}
 use Rattle.volume_format.specs.Table.{TableSeen, empty_table}
 use Rattle.volume_files.specs.declared.table_files.PlaceStop.{PlaceStop}
 use Rattle.volume_files.specs.declared.table_files.PlaceStop.TheVariants as stop
-use Rattle.volume_files.specs.Opened.{info_on, mounted_infos}
+use Rattle.volume_files.specs.Opened.{mounted_infos}
+use Rattle.stored_files.specs.Closed.{info_on}
 use Rattle.volume_files.specs.Placing.{with_infos, IsTooMany, table_at, attached_numbers, sizes_by_number, AreSet}
 
 files_with : FilesSeen → List VnodeSeen → FilesSeen

@@ -21,12 +21,13 @@ use Rattle.volume_disks.specs.declared.volume_spec.VolumeSpec.{VolumeSpec}
 use Rattle.volume_disks.specs.declared.volume_spec.VolumeSpec.TheVariants.{Plain, Joined}
 use Rattle.volume_format.specs.Table.{TableSeen}
 use Rattle.volume_files.specs.declared.stops.OpenStop.{OpenStop}
-use Rattle.volume_files.specs.Attached.{bare_disks, numbered_seen}
+use Rattle.volume_files.specs.Attached.{bare_disks}
+use Rattle.stored_files.specs.Written.{numbered_seen}
 use Rattle.volume_files.specs.Handed.{members_of}
 use Rattle.volume_files.specs.Mounting.{HaltsSpec, Holds, IsGiven, MountsOne, SaysTableRead, UnreadCause, unmounted_as}
 use Rattle.volume_files.specs.Opened.{HasVolumeBlocks, IsVolumeAttached, size_refusal, volume_number}
 use Rattle.volume_files.specs.Unfailed.{NoneCounted, UnlessFailed}
-use Rattle.volume_files.specs.Written.{OnlyReads}
+use Rattle.stored_files.specs.Written.{OnlyReads}
 use Rattle.volume_files.proofs.Unfailing.{none-told}
 use Rattle.volume_files.proofs.VolumeSeen.{one_seen}
 

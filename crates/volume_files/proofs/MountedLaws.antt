@@ -16,8 +16,9 @@ use Rattle.volume_format.proofs.vnode_files.LayoutLemmas.{none_meet-pairs}
 use Rattle.volume_format.specs.Rules.{do_meet, is_on_disk}
 use Rattle.volume_format.specs.Table.{TableSeen, all_extents, entry_at, no_entry}
 use Rattle.volume_format.specs.Volume.{IsVolumeTable, IsVolumeFile, extent_at}
-use Rattle.volume_files.specs.Closed.{info_at}
-use Rattle.volume_files.specs.Opened.{info_on, extents_of_disk, mounted_infos}
+use Rattle.stored_files.specs.Closed.{info_at}
+use Rattle.volume_files.specs.Opened.{extents_of_disk, mounted_infos}
+use Rattle.stored_files.specs.Closed.{info_on}
 use Rattle.volume_files.specs.Placing.{Distinct, IsAddable}
 
 -- Of each table's files, on its disk.

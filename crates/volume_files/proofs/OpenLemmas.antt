@@ -12,7 +12,8 @@ use Rattle.volume_format.specs.Table.{TableSeen}
 use Rattle.volume_files.specs.declared.stops.Refusal.{Refusal}
 use Rattle.volume_disks.specs.declared.volume_spec.VolumeSpec.{VolumeSpec}
 use Rattle.volume_files.specs.Attached.{IsMounted, AreMounted, bare_disks}
-use Rattle.volume_files.specs.Opened.{OpenedFile, info_on, stored_bytes, mounted_file, mounted_files, with_mounted, infos_of, mounted_infos}
+use Rattle.volume_files.specs.Opened.{OpenedFile, mounted_file, mounted_files, with_mounted, infos_of, mounted_infos}
+use Rattle.stored_files.specs.Closed.{info_on, stored_bytes}
 use Rattle.volume_files.specs.Opened.{volume_blocks, volume_number, volume_table}
 use Rattle.volume_files.proofs.HeldVolumes.{held_told, told_volume}
 use Rattle.volume_files.specs.Placing.{found_file, found_files, content_bytes}

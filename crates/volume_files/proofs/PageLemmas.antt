@@ -16,7 +16,7 @@ use Rattle.volume_format.specs.vnode_files.declared.vnode.FileInfo.{FileInfo}
 use Rattle.volume_format.specs.vnode_files.Grow.{has_block}
 use Rattle.volume_format.specs.vnode_files.Vnode.{page_blocks}
 use Rattle.volume_format.proofs.vnode_files.BlockLemmas.{has_block-between}
-use Rattle.volume_files.specs.Opened.{stored_bytes}
+use Rattle.stored_files.specs.Closed.{stored_bytes}
 use Rattle.volume_files.specs.Placing.{filled_pages, with_block_pages}
 
 -- blocks with pages from a block on

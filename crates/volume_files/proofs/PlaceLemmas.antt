@@ -20,7 +20,8 @@ use Rattle.volume_files.specs.declared.stops.Refusal.{Refusal}
 use Rattle.volume_files.specs.declared.stops.Refusal.TheVariants as refusal
 use Rattle.volume_files.specs.declared.table_files.PlaceStop.{PlaceStop}
 use Rattle.volume_files.specs.declared.table_files.PlaceStop.TheVariants as stop
-use Rattle.volume_files.specs.Attached.{AreMounted, numbered_seen}
+use Rattle.volume_files.specs.Attached.{AreMounted}
+use Rattle.stored_files.specs.Written.{numbered_seen}
 use Rattle.volume_files.specs.Opened.{OpenedFile, infos_of, if_few, new_file, with_line_files, mounted_infos}
 use Rattle.volume_files.specs.Handed.{SpareBlock}
 use Rattle.volume_files.specs.Placing.{KeepThere, Distinct, Gave, HasOpened, HavePlaces, IsPlaceable, IsFaultThere, IsTooMany, LieRight, Stopped, PlaceStopped}

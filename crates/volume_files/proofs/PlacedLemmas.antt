@@ -27,7 +27,8 @@ use Rattle.vm_report.specs.vm_script.declared.plan.SetupAct.TheVariants as given
 use Rattle.vm_report.specs.vm_script.declared.plan.SetupLine.{SetupLine}
 use Rattle.volume_files.specs.declared.stops.Refusal.{Refusal}
 use Rattle.volume_files.specs.declared.stops.Refusal.TheVariants as refusal
-use Rattle.volume_files.specs.Attached.{AreMounted, numbered_seen}
+use Rattle.volume_files.specs.Attached.{AreMounted}
+use Rattle.stored_files.specs.Written.{numbered_seen}
 use Rattle.volume_files.specs.Opened.{OpenedFile, infos_of, names_of, new_file, extents_of_disk, place_for, with_placed, with_line_file, with_line_files, mounted_infos}
 use Rattle.volume_files.specs.Placing.{Distinct, HasOpened, HaveAddable, HasPlaceOn, HasPlaces, HavePlaces, LieRight, attached_numbers, bytes_given, line_files, with_given, sizes_by_number, table_at}
 use Rattle.volume_files.proofs.LineLemmas.{KeptByLines, place-run, run-free, same_Ok, err-ok, all_push, HoldsItsBytes}

@@ -12,7 +12,8 @@ use Rattle.volume_disks.specs.declared.volume_spec.VolumeSpec.{VolumeSpec}
 use Rattle.volume_files.specs.Opened.{IsVolumeAttached, volume_number}
 use Rattle.volume_format.specs.vnode_files.declared.vnode.FileInfo.{FileInfo}
 use Rattle.volume_format.specs.Table.{TableSeen, front_block}
-use Rattle.volume_files.specs.Attached.{AreMounted, bare_disks, numbered_seen}
+use Rattle.volume_files.specs.Attached.{AreMounted, bare_disks}
+use Rattle.stored_files.specs.Written.{numbered_seen}
 use Rattle.volume_files.specs.Handed.{LiesBeside, SpareBlock, SparesBlock, block_told}
 use Rattle.volume_files.specs.Opened.{OpenedFile}
 use Rattle.volume_files.specs.Placing.{KeepThere, KeepsThere, RemainThere, filled_pages, with_block_pages, with_file, with_file_pages}

@@ -21,12 +21,13 @@ use Rattle.volume_files.specs.declared.stops.Refusal.TheVariants as refusal
 use Rattle.volume_files.specs.declared.stops.HandedBack.{HandedBack}
 use Rattle.volume_files.specs.declared.table_files.PlaceStop.{PlaceStop}
 use Rattle.volume_files.specs.declared.table_files.PlaceStop.TheVariants as stop
-use Rattle.volume_files.specs.Attached.{AreMounted, StopCause, StopsEarly, numbered_seen, bare_disks}
+use Rattle.volume_files.specs.Attached.{AreMounted, StopCause, StopsEarly, bare_disks}
+use Rattle.stored_files.specs.Written.{numbered_seen}
 use Rattle.volume_files.specs.Handed.{SpareBlock, AreAsGiven, AreUntouched, HandsAll, HandsFront, HasDiskCause, IsCountedBy, IsSwapAsGiven, IsSwapFor}
 use Rattle.volume_files.specs.Handed.{disk_handed, handed_specs, sizes_of, volume_numbers}
 use Rattle.volume_files.specs.Opened.{ComesTo, OpenedFile, setup_volumes, volume_specs}
 use Rattle.volume_files.specs.Placing.{IsFaultThere, PlaceStopped, RemainThere, attached_numbers, open_stop_of, found_files, placing_read}
-use Rattle.volume_files.specs.Written.{disk_sizes}
+use Rattle.stored_files.specs.Written.{disk_sizes}
 use Rattle.volume_files.proofs.AllPlaced.{hands-all}
 use Rattle.volume_files.proofs.FoundLemmas.{AllBlocks}
 use Rattle.volume_files.proofs.HandLemmas.{SameDisks, lookup-at, mounted-numbers, plan-numbers, same-disks, same-numbers}

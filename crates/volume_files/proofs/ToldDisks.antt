@@ -11,7 +11,8 @@ use Rattle.volume_format.specs.vnode_files.Files.{block_count}
 use Rattle.volume_format.specs.Table.{TableSeen}
 use Rattle.vm_report.specs.vm_script.PlanSeen.{PlanSeen}
 use Rattle.volume_files.specs.declared.stops.Refusal.{Refusal}
-use Rattle.volume_files.specs.Attached.{AreMounted, numbered_seen, bare_disks}
+use Rattle.volume_files.specs.Attached.{AreMounted, bare_disks}
+use Rattle.stored_files.specs.Written.{numbered_seen}
 use Rattle.volume_files.specs.Opened.{OpenedFile, if_few, opened_files, setup_volumes, with_line_files}
 use Rattle.volume_files.specs.Placing.{found_files, placing_read}
 use Rattle.volume_files.proofs.FoundLemmas.{AllBlocks}

@@ -3,27 +3,21 @@ use Rattle.std.proofs.Common.{◌≡◌, ℕ, zero, suc, Bool, true, false, List
 use Rattle.std.specs.Prelude.{All, IfSome, if◌then◌else◌, Option, None, Some, Result, Ok, Err, option_map}
 use Rattle.std.proofs.lemmas.List.Elements.{All-nil, All-cons, All-head, All-tail}
 use Rattle.block_device.specs.DiskSeen.{DiskSeen, failures_told}
-use Rattle.volume_files.specs.declared.showing.ShowStop.{ShowStop}
-use Rattle.volume_files.specs.declared.showing.ShowStop.TheVariants as show
 use Rattle.volume_files.specs.declared.stops.OpenStop.{OpenStop}
 use Rattle.volume_files.specs.declared.stops.OpenStop.TheVariants as halt
 use Rattle.block_device.specs.declared.numbered.NumberedDisk.{NumberedDisk}
 use Rattle.volume_files.specs.declared.stops.Refusal.{Refusal}
 use Rattle.volume_files.specs.declared.table_files.PlaceStop.{PlaceStop}
 use Rattle.volume_files.specs.declared.table_files.PlaceStop.TheVariants as stop
-use Rattle.volume_files.specs.Attached.{bare_disks, numbered_seen}
+use Rattle.volume_files.specs.Attached.{bare_disks}
+use Rattle.stored_files.specs.Written.{numbered_seen}
 use Rattle.volume_files.specs.Handed.{AreUncounted}
 use Rattle.volume_files.specs.Opened.{OpenedFile}
 use Rattle.volume_files.specs.Placing.{PlaceStopped, open_stop_of}
-use Rattle.volume_files.specs.Unfailed.{NoneCounted, UnlessCut, UnlessFailed, counts_of}
+use Rattle.volume_files.specs.Unfailed.{NoneCounted, UnlessFailed}
+use Rattle.stored_files.specs.Uncut.{counts_of}
 
 -- ---- what is said unless something failed
-
-pub unless-cut : {T F P Q : Type 0} (r : Result T (ShowStop F)) → (P → Q) → UnlessCut r P → UnlessCut r Q
-unless-cut (Ok done) f p = f p
-unless-cut (Err show.Memory) f p = f p
-unless-cut (Err show.Sink) f p = tt
-unless-cut (Err (show.Fault x)) f p = tt
 
 pub unless-failed : {T P Q : Type 0} (r : Result T OpenStop) → (P → Q) → UnlessFailed r P → UnlessFailed r Q
 unless-failed (Ok done) f p = f p
@@ -49,14 +43,6 @@ pub where-lacked : {T P : Type 0} (r : Result T OpenStop) (e : OpenStop) → r �
 where-lacked {T} {P} r e is memory p = subst (λ (x : Result T OpenStop). UnlessFailed x P) (is ∙ ap (λ (y : OpenStop). Err y) memory) p
 
 -- ---- counts of lists of disks
-
--- one disk was replaced by one with its count
-pub counts-set : {X : Type 0} (f : X → ℕ × DiskSeen) (xs : List X) (i : ℕ) (z x : X) → failures_told (f x).1 ≡ failures_told (f (get_or xs i z)).1
-    → counts_of (map f (set xs i x)) ≡ counts_of (map f xs)
-counts-set f [] zero z x same = refl
-counts-set f [] (suc i) z x same = refl
-counts-set f (y ∷ ys) zero z x same = ap (λ (n : ℕ). n ∷ counts_of (map f ys)) same
-counts-set f (y ∷ ys) (suc i) z x same = ap (λ (l : List ℕ). failures_told (f y).1 ∷ l) (counts-set f ys i z x same)
 
 abbrev Uncounted : DiskSeen → Type 0
 Uncounted d = failures_told d ≡ 0

@@ -18,10 +18,10 @@ use Rattle.volume_files.specs.declared.attaching.Attached.{Attached}
 use Rattle.volume_files.specs.declared.stops.OpenStop.{OpenStop}
 use Rattle.volume_files.specs.declared.stops.OpenStop.TheVariants as halt
 use Rattle.volume_files.specs.declared.stops.HandedBack.{HandedBack}
-use Rattle.volume_files.specs.Closed.{StoreFiles, info_at}
+use Rattle.stored_files.specs.Closed.{StoreFiles, info_at}
 use Rattle.volume_files.specs.Handed.{AreWrittenAt, HaveTold, HandsFront, HandsAll, HasDiskCause, HasOpeningCause}
 use Rattle.volume_files.specs.Handed.{HasRefusalCause, IsSwapAsGiven, IsSwapFor, StopsAttaching, volume_numbers, sizes_of}
-use Rattle.volume_files.specs.Written.{LieWell, HaveDisks, HaveFirstBlocks}
+use Rattle.stored_files.specs.Written.{HaveDisks, HaveFirstBlocks, HaveVolumeNames, LieWell, numbered_seen, paired_seen}
 use Rattle.volume_files.specs.Opened.{ComesTo, IsVolumeAttached, OpenedFile, volume_number, line_files_of, opened_files, infos_of, opened_bytes_at, table_on, volume_specs}
 
 -- The disks with their numbers, in rising number; the table of each; and the swap disk.
@@ -29,13 +29,6 @@ pub record AttachedSeen : Type 0 where
   pub disks : List (ℕ × DiskSeen)
   pub tables : List TableSeen
   pub swap : Option DiskSeen
-
-abbrev pub numbered_seen : {D : Type 0} → (D → DiskSeen) → NumberedDisk D → ℕ × DiskSeen
-numbered_seen seen d = (d.number, seen d.disk)
-
--- Disks that stand with their numbers.
-abbrev pub paired_seen : {D : Type 0} → (D → DiskSeen) → List (ℕ × D) → List (ℕ × DiskSeen)
-paired_seen seen disks = map (λ disk. (disk.0, seen disk.1)) disks
 
 abbrev pub attached_seen : {D : Type 0} → (D → DiskSeen) → Attached D → AttachedSeen
 attached_seen seen a = record {
@@ -95,11 +88,6 @@ StopCause plan holds rack_old rack_new disks swap halt.Memory = HandsFront plan 
 
 abbrev pub StopsEarly : {D : Type 0} → PlanSeen → (Spec → Option (List (List ℕ))) → ℕ → ℕ → (D → DiskSeen) → HandedBack D → Type 0
 StopsEarly plan holds rack_old rack_new seen s = StopCause plan holds rack_old rack_new (map seen s.disks.items) (option_map seen s.swap) s.why
-
--- The names of files are names of volumes, and those of the files of one disk differ.
-pub record HaveVolumeNames (infos : List FileInfo) : Type 0 where
-  pub names : (k : ℕ) → k < length infos → IsVolumeName (info_at infos k).name
-  pub differ : (i k : ℕ) → k < i → i < length infos → (info_at infos k).disk ≡ (info_at infos i).disk → (info_at infos k).name ≢ (info_at infos i).name
 
 -- A file's bytes are bytes, as many as its record says.
 pub record HasItsBytes (f : OpenedFile) : Type 0 where

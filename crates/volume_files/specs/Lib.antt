@@ -1,13 +1,8 @@
 pub mod Opened
 pub mod Handed
 pub mod Numbers
-pub mod Closed
-pub mod Texts
 pub mod Attached
 pub mod Mounting
-pub mod Written
-pub mod Showing
-pub mod DiskTables
 pub mod Placing
 pub mod Unfailed
 pub use Rattle.vm_report.specs.vm_types as vm_types
@@ -19,3 +14,4 @@ pub use Rattle.volume_format.specs as volume_format
 pub use Rattle.block_device.specs as block_device
 pub use Rattle.volume_disks.specs as volume_disks
 pub use Rattle.joined_disk.specs as joined_disk
+pub use Rattle.stored_files.specs as stored_files

@@ -18,13 +18,14 @@ use Rattle.joined_disk.specs.declared.joined.JoinedDisk.{JoinedDisk}
 use Rattle.volume_disks.specs.declared.stops.VolumeStop.{VolumeStop}
 use Rattle.volume_disks.specs.declared.stops.VolumeStop.TheVariants as stop
 use Rattle.std.specs.Option.{ForSome}
-use Rattle.volume_files.specs.Attached.{IsMounted, AreMounted, numbered_seen}
+use Rattle.volume_files.specs.Attached.{IsMounted, AreMounted}
+use Rattle.stored_files.specs.Written.{numbered_seen}
 use Rattle.volume_files.specs.Handed.{HasBadTable}
 use Rattle.volume_disks.specs.Volumes.{second_spec, size_fault}
 use Rattle.volume_disks.specs.declared.volume_spec.VolumeSpec.{VolumeSpec}
 use Rattle.volume_disks.specs.declared.volume_spec.VolumeSpec.TheVariants.{Plain, Joined}
 use Rattle.volume_files.specs.Opened.{IsVolumeAttached, size_refusal, table_on, table_read, volume_number, volume_numbered}
-use Rattle.volume_files.specs.Written.{HasLastFault, open_fault_counts}
+use Rattle.stored_files.specs.Written.{HasLastFault, open_fault_counts}
 
 -- What a rack holds for each spec, where it tells that.
 abbrev pub Holds : Type 0

@@ -35,6 +35,7 @@ use Rattle.volume_disks.specs.declared.stops.VolumeStop.{VolumeStop}
 use Rattle.volume_disks.specs.declared.stops.VolumeStop.TheVariants as unfit
 use Rattle.volume_disks.specs.declared.volume_spec.VolumeSpec.{VolumeSpec}
 use Rattle.volume_disks.specs.declared.volume_spec.VolumeSpec.TheVariants.{Plain, Joined}
+use Rattle.stored_files.specs.Closed.{info_on, stored_bytes}
 use Rattle.volume_files.specs.declared.stops.Refusal.{Refusal}
 use Rattle.volume_files.specs.declared.stops.Refusal.TheVariants as refusal
 
@@ -133,14 +134,6 @@ IsVolumeAttached holds v disk = HasVolumeBlocks holds v disk × (disk.kind.membe
 pub record OpenedFile : Type 0 where
   pub info : FileInfo
   pub bytes : List ℕ
-
--- The bytes that a disk of these blocks has of a file: those of its pages' blocks, up to its length.
-abbrev pub stored_bytes : List (List ℕ) → FileInfo → List ℕ
-stored_bytes blocks info = take info.length (concat (map (λ block. slice_index_or blocks block []) (page_blocks info.extents)))
-
--- A file of a table, on the disk of a number.
-abbrev pub info_on : ℕ → FileInfo → FileInfo
-info_on disk info = record info { disk = disk }
 
 abbrev pub mounted_file : ℕ × List (List ℕ) → FileInfo → OpenedFile
 mounted_file disk info = record { info = info_on disk.0 info; bytes = stored_bytes disk.1 info }

@@ -25,9 +25,10 @@ use Rattle.volume_files.specs.declared.stops.Refusal.TheVariants as refusal
 use Rattle.volume_files.specs.declared.table_files.PlaceStop.{PlaceStop}
 use Rattle.volume_files.specs.declared.table_files.PlaceStop.TheVariants as stop
 use Rattle.volume_files.specs.Handed.{SpareBlock, block_told}
-use Rattle.volume_files.specs.Opened.{OpenedFile, info_on, infos_of, stored_bytes, with_line_files, if_few}
-use Rattle.volume_files.specs.Attached.{numbered_seen}
-use Rattle.volume_files.specs.Written.{HasLastFault, open_fault_counts}
+use Rattle.volume_files.specs.Opened.{OpenedFile, infos_of, with_line_files, if_few}
+use Rattle.stored_files.specs.Closed.{info_on, stored_bytes}
+use Rattle.stored_files.specs.Written.{numbered_seen}
+use Rattle.stored_files.specs.Written.{HasLastFault, open_fault_counts}
 
 -- The files have these records, and no page was written.
 abbrev pub HasOpened : FilesSeen → List OpenedFile → Type 0

@@ -1,35 +1,28 @@
-//! The files of a script on their disks: disks are attached and their tables read, files are placed and written, shown, and closed
-//! with their tables. No kernel is known here.
+//! The files of a script on their disks: disks are attached and their tables read, files are placed and written. No kernel is known
+//! here.
 #![tactic(auto)]
 
 mod attaching;
-mod closing;
-mod disk_tables;
 mod file_lines;
 mod free_places;
 mod mounting;
 mod numbering;
-mod page_disk;
-mod page_lines;
 mod pages;
 mod placing;
-mod showing;
 mod stops;
 mod table_files;
-mod tracing;
 
 pub use attaching::{Attached, attach, into_disks, into_swap};
 pub use block_device::{
     Disk, DiskFault, OpenFault, Rack, ReadFault, Sink, Source, Unopened, read_to_limit, write_all,
 };
-pub use closing::{TableStop, write_tables};
 pub use joined_disk::JoinedDisk;
 pub use numbering::disk_numbers;
-pub use page_disk::PageDisk;
 pub use placing::{Placed, place};
-pub use showing::{Heading, ShowStop, show_files};
 pub use stops::{HandedBack, OpenStop, Refusal};
-pub use tracing::trace_opening;
+pub use stored_files::{
+    Heading, PageDisk, ShowStop, TableStop, show_files, trace_opening, write_tables,
+};
 pub use vm_report::{
     Call, Entry, MOST_BYTES, Plan, PlanAct, PlanLine, Reply, ScriptFault, SectionsLeft, SetupAct,
     SetupLine, amounts_of, broken_rule, disk_fault, generate, parse, parts, process_sections,

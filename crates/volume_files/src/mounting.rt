@@ -10,12 +10,13 @@ ghost use Rattle.volume_format.specs.Rules.{reading};
 ghost use Rattle.volume_format.specs.Volume.{IsVolumeTable};
 ghost use Rattle.vm_report.specs.vm_script.Rules.{broken_join, gives_disk, has_wrong_disk};
 ghost use Rattle.volume_disks.specs.Singles.{single_seen};
-ghost use Rattle.volume_files.specs.Attached.{AreMounted, bare_disks, numbered_seen};
+ghost use Rattle.volume_files.specs.Attached.{AreMounted, bare_disks};
+ghost use Rattle.stored_files.specs.Written.{numbered_seen};
 ghost use Rattle.volume_files.specs.Handed.{members_of};
 ghost use Rattle.volume_files.specs.Mounting.{Holds, HoldSame, SaysTableRead, BadTableCause, UnreadCause, MountsOne, MountsNumber, HaltsNumber, HaltsSpec, Halts, IsOtherDisk, unmounted_as, volumes_seen};
 ghost use Rattle.volume_files.specs.Opened.{given_disk, disk_numbered, is_second, joined_by, joined_to, second_numbered, setup_volumes, volume_numbered};
 ghost use Rattle.volume_files.specs.Unfailed.{NoneCounted, UnlessFailed};
-ghost use Rattle.volume_files.specs.Written.{OnlyReads};
+ghost use Rattle.stored_files.specs.Written.{OnlyReads};
 
 use crate::stops::{OpenStop, Refusal};
 use block_device::{Disk, PathText, Rack, Spec, Unopened};

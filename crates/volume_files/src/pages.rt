@@ -4,10 +4,10 @@ ghost use Rattle.block_device.specs.DiskSeen.{failures_told};
 ghost use Rattle.vm_report.specs.flat_model.Words.{pages_in};
 ghost use Rattle.volume_format.specs.vnode_files.Files.{vnode_at};
 ghost use Rattle.volume_format.specs.Table.{front_block};
-ghost use Rattle.volume_files.specs.Attached.{numbered_seen};
+ghost use Rattle.stored_files.specs.Written.{numbered_seen};
 ghost use Rattle.volume_files.specs.Handed.{LiesBeside, SpareBlock, SparesBlock};
 ghost use Rattle.volume_files.specs.Placing.{KeepThere, KeepsThere, HasPlaceOn, HasPlaces, HavePlaces, IsFaultOne, IsFaultThere, RemainThere, RemainsThere, WroteEach, WroteOne, bytes_given, filled_pages, line_files, with_block_pages, with_file};
-ghost use Rattle.volume_files.specs.Unfailed.{counts_of};
+ghost use Rattle.stored_files.specs.Uncut.{counts_of};
 
 use block_device::{Disk, OpenFault, Unopened};
 use vm_report::{SetupAct, SetupLine};

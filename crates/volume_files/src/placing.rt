@@ -6,11 +6,12 @@ ghost use Rattle.vm_report.specs.vm_script.FileNames.{with_files};
 ghost use Rattle.vm_report.specs.vm_script.Rules.{broken_rule};
 ghost use Rattle.vm_report.specs.vm_script.Sound.{IsSoundSetup};
 ghost use Rattle.volume_format.specs.vnode_files.Vnode.{IsSoundVnode};
-ghost use Rattle.volume_files.specs.Attached.{AreAttached, AreMounted, ArePlaced, HasRooms, StopsEarly, attached_seen, bare_disks, numbered_seen};
+ghost use Rattle.volume_files.specs.Attached.{AreAttached, AreMounted, ArePlaced, HasRooms, StopsEarly, attached_seen, bare_disks};
+ghost use Rattle.stored_files.specs.Written.{numbered_seen};
 ghost use Rattle.volume_files.specs.Handed.{AreUncounted, member_count};
 ghost use Rattle.volume_files.specs.Opened.{OpenedFile, numbered_plan};
 ghost use Rattle.volume_files.specs.Placing.{Distinct, IsPlaceable, PlaceStopped, PlacesFiles, RemainThere, attached_numbers, found_files, open_stop_of, names_made, placing_read};
-ghost use Rattle.volume_files.specs.Unfailed.{counts_of};
+ghost use Rattle.stored_files.specs.Uncut.{counts_of};
 
 use crate::attaching::{Attached, hand_back};
 use crate::file_lines::add_lines;

@@ -1,7 +1,8 @@
 //! The files of the disks' tables.
 ghost use Rattle.std.specs.Prelude.{◌≡◌, ◌<◌, ◌+◌, ◌++◌, [], All, IfOk, IfErr, OnOk, IsSome, length, map};
 ghost use Rattle.std.specs.FinMap as finite;
-ghost use Rattle.volume_files.specs.Opened.{info_on, mounted_infos};
+ghost use Rattle.volume_files.specs.Opened.{mounted_infos};
+ghost use Rattle.stored_files.specs.Closed.{info_on};
 ghost use Rattle.volume_files.specs.Placing.{AreSet, HaveAddable, IsAddable, IsTooMany, attached_numbers, sizes_by_number, with_infos};
 
 use block_device::{Disk, OpenFault, Unopened};

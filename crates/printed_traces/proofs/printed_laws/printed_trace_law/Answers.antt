@@ -1,7 +1,7 @@
 use Rattle.std.proofs.Common.{refl, length}
 use Rattle.std.specs.Prelude.{Ok}
 use Rattle.volume_files.specs.Opened.{opening_flat}
-use Rattle.volume_files.specs.Written.{disk_sizes}
+use Rattle.volume_files.specs.stored_files.Written.{disk_sizes}
 use Rattle.trace_check.specs.declared.verdict.Verdict.TheVariants as verdict
 use Rattle.printed_traces.specs.Printed.{printed_text}
 use Rattle.printed_traces.proofs.RunsTold.{run-stands}

@@ -10,7 +10,7 @@ use Rattle.volume_files.proofs.DiskCounts.{members-kinds}
 use Rattle.vm_run.specs.Course.{IsReady}
 use Rattle.vm_run.specs.Played.{KernelLeaves, left_seen}
 use Rattle.volume_files.specs.Opened.{opening_flat}
-use Rattle.volume_files.specs.Written.{disk_sizes}
+use Rattle.volume_files.specs.stored_files.Written.{disk_sizes}
 use Rattle.vm_run.proofs.Plays.{played-still}
 use Rattle.vm_run.proofs.Returned.{swap-still}
 use Rattle.vm_run.proofs.RunReady.{first-left, names-left, ready-ends}

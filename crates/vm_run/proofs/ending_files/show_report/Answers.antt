@@ -3,12 +3,12 @@ use Rattle.std.specs.Prelude.{is_some}
 use Rattle.vm_core.specs.page_store.Bays.{pairs_seen}
 use Rattle.vm_run.specs.declared.ending.Ending.{Ending}
 use Rattle.vm_run.specs.Course.{ShowEnds}
-use Rattle.volume_files.specs.Written.{infos_made}
+use Rattle.volume_files.specs.stored_files.Written.{infos_made}
 use Rattle.vm_run.specs.AskedTexts.{middle_text}
 use Rattle.vm_run.proofs.Unfailing.{where-ended, where-shown}
 use Rattle.vm_run.proofs.ending_files.show_report.Goals as goal
 use Rattle.vm_run.proofs.Endings.{middle-stopped, without-files, files-stopped}
-use Rattle.volume_files.proofs.ShownSections.{all_have_blocks, bytes-of-disks}
+use Rattle.volume_files.proofs.stored_files.ShownSections.{all_have_blocks, bytes-of-disks}
 
 pub returns-in-Err-clause-ends : goal.returns-in-Err-clause-ends
 returns-in-Err-clause-ends g c =

@@ -2,17 +2,18 @@ use Rattle.std.proofs.Common.{rules, ◌∙◌, ℕ, List, ap, map, subst, sym}
 use Rattle.std.specs.Prelude.{Err}
 use Rattle.volume_files.specs.block_device.DiskSeen.{DiskSeen}
 use Rattle.volume_files.specs.block_device.declared.numbered.NumberedDisk.{NumberedDisk}
-use Rattle.volume_files.specs.Attached.{attached_seen, bare_disks, numbered_seen}
+use Rattle.volume_files.specs.Attached.{attached_seen, bare_disks}
+use Rattle.volume_files.specs.stored_files.Written.{numbered_seen}
 use Rattle.volume_files.specs.Handed.{AreUncounted}
-use Rattle.volume_files.specs.Unfailed.{counts_of}
+use Rattle.volume_files.specs.stored_files.Uncut.{counts_of}
 use Rattle.volume_files.proofs.Unfailing.{zero-still}
 use Rattle.vm_run.proofs.Unfailing.{unless-opening}
 use Rattle.vm_run.specs.Course.{TraceStops}
 use Rattle.volume_files.specs.Opened.{opened_bytes_at, infos_of}
-use Rattle.volume_files.specs.Texts.{Wrote}
-use Rattle.volume_files.specs.Written.{infos_made}
-use Rattle.volume_files.specs.Written.{AreFilesBytes, TraceShows, disk_sizes}
-use Rattle.volume_files.proofs.WrittenTexts.{wrote_nothing}
+use Rattle.volume_files.specs.stored_files.Texts.{Wrote}
+use Rattle.volume_files.specs.stored_files.Written.{infos_made}
+use Rattle.volume_files.specs.stored_files.Written.{AreFilesBytes, TraceShows, disk_sizes}
+use Rattle.volume_files.proofs.stored_files.WrittenTexts.{wrote_nothing}
 use Rattle.vm_run.proofs.Traced.{no-trace, own-bytes, read-bytes, traced-part, traced-whole, written-back}
 use Rattle.vm_run.proofs.ready.traced.Goals as goal
 

@@ -1,6 +1,6 @@
 use Rattle.std.proofs.Common.{◌∙◌, refl, sym}
 use Rattle.volume_files.specs.Opened.{opening_flat}
-use Rattle.volume_files.specs.Written.{disk_sizes}
+use Rattle.volume_files.specs.stored_files.Written.{disk_sizes}
 use Rattle.vm_run.proofs.running.run_blocks.Goals as goal
 
 pub play_blocks-state-requires-clause-playable : goal.play_blocks-state-requires-clause-playable

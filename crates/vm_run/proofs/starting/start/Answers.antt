@@ -6,7 +6,8 @@ use Rattle.vm_core.specs.page_store.Bays.{AreNumbers, numbers_of, pairs_seen}
 use Rattle.vm_core.specs.page_store.New.{AreHome}
 use Rattle.vm_core.specs.Setup.{disk_total, FilesOnDisks, SwapServes}
 use Rattle.volume_files.specs.vm_script.Rules.{amounts_of}
-use Rattle.volume_files.specs.Attached.{attached_seen, numbered_seen}
+use Rattle.volume_files.specs.Attached.{attached_seen}
+use Rattle.volume_files.specs.stored_files.Written.{numbered_seen}
 use Rattle.vm_run.specs.Played.{HasRoomForPlan}
 use Rattle.vm_run.proofs.StartRules.{right-amounts}
 use Rattle.vm_run.proofs.Starts.{with_number, pairs-are, numbers-are, total-is, swap-serves, frames-enough, are-numbers, its-disks, its-swap, started}

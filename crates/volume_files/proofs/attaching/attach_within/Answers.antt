@@ -8,7 +8,8 @@ use Rattle.vm_report.specs.vm_script.declared.plan.SetupLine.{SetupLine}
 use Rattle.vm_report.specs.vm_script.declared.rules.Amounts.{Amounts}
 use Rattle.vm_report.specs.vm_script.Rules.{amounts_of, broken_join, has_wrong_disk}
 use Rattle.volume_files.specs.declared.stops.OpenStop.{OpenStop}
-use Rattle.volume_files.specs.Attached.{AreMounted, numbered_seen}
+use Rattle.volume_files.specs.Attached.{AreMounted}
+use Rattle.stored_files.specs.Written.{numbered_seen}
 use Rattle.volume_files.specs.Handed.{IsSwapAsGiven, IsSwapFor}
 use Rattle.volume_files.specs.Mounting.{Halts}
 use Rattle.volume_files.specs.Opened.{setup_volumes}

@@ -4,7 +4,7 @@ use Rattle.block_device.specs.DiskSeen.{DiskKind}
 use Rattle.joined_disk.specs.JoinedSeen.{joined_seen}
 use Rattle.volume_disks.specs.Volumes.{spec_count}
 use Rattle.volume_format.specs.Table.{TableSeen}
-use Rattle.volume_files.specs.Attached.{numbered_seen}
+use Rattle.stored_files.specs.Written.{numbered_seen}
 use Rattle.volume_files.specs.Mounting.{volumes_seen}
 use Rattle.volume_disks.specs.Singles.{single_seen}
 use Rattle.volume_files.proofs.DiskCounts.{members-attached}

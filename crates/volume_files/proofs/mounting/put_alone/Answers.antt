@@ -2,7 +2,7 @@ use Rattle.std.proofs.Common.{◌≡◌, ◌++◌, Option, append-nil, map, subs
 use Rattle.std.specs.Option.{option_to_list}
 use Rattle.block_device.specs.declared.numbered.NumberedDisk.{NumberedDisk}
 use Rattle.joined_disk.specs.JoinedSeen.{joined_seen}
-use Rattle.volume_files.specs.Attached.{numbered_seen}
+use Rattle.stored_files.specs.Written.{numbered_seen}
 use Rattle.volume_files.specs.Mounting.{volumes_seen}
 use Rattle.volume_files.proofs.MountVolume.{alone_is, pushed_as}
 use Rattle.volume_files.proofs.mounting.put_alone.Goals as goal

@@ -2,9 +2,9 @@ use Rattle.std.specs.Prelude.{◌<◌, length, slice_index_or}
 use Rattle.std.proofs.Common.{◌∙◌, arith}
 use Rattle.std.proofs.lemmas.List.{get_or_default}
 use Rattle.std.proofs.lemmas.Result.{err_from_is_err_and}
-use Rattle.volume_files.specs.Attached.{numbered_seen}
+use Rattle.stored_files.specs.Written.{numbered_seen}
 use Rattle.volume_files.specs.Handed.{SparesBlock}
-use Rattle.volume_files.proofs.Unfailing.{counts-set}
+use Rattle.stored_files.proofs.Uncut.{counts-set}
 use Rattle.volume_files.proofs.SparedBlocks.{keep-done, keep-set}
 use Rattle.volume_files.proofs.WriteLemmas.{fault-set, FileOn, file_on-step, remain-set}
 use Rattle.volume_files.proofs.pages.write_file.Goals as goal

@@ -1,7 +1,7 @@
 use Rattle.std.specs.Prelude.{◌≡◌, ◌<◌, ◌≤◌, ℕ, length, map, slice_index_or}
 use Rattle.block_device.specs.declared.numbered.NumberedDisk.{NumberedDisk}
-use Rattle.volume_files.specs.Attached.{numbered_seen}
-use Rattle.volume_files.specs.Unfailed.{counts_of}
+use Rattle.stored_files.specs.Written.{numbered_seen}
+use Rattle.stored_files.specs.Uncut.{counts_of}
 use Rattle.volume_files.specs.Placing.{RemainThere, with_file}
 use Rattle.volume_files.proofs.pages.write_file.Given as goal
 

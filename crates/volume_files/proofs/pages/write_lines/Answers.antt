@@ -4,9 +4,9 @@ use Rattle.block_device.specs.declared.numbered.NumberedDisk.{NumberedDisk}
 use Rattle.std.proofs.lemmas.List.Elements.{All-head}
 use Rattle.volume_format.specs.vnode_files.Files.{vnode_at}
 use Rattle.volume_format.specs.vnode_files.declared.vnode.FileInfo.{FileInfo}
-use Rattle.volume_files.specs.Attached.{numbered_seen}
+use Rattle.stored_files.specs.Written.{numbered_seen}
 use Rattle.volume_files.specs.Handed.{SpareBlock, SparesBlock}
-use Rattle.volume_files.specs.Unfailed.{counts_of}
+use Rattle.stored_files.specs.Uncut.{counts_of}
 use Rattle.volume_files.specs.Opened.{OpenedFile}
 use Rattle.volume_files.specs.Placing.{bytes_given, line_files}
 use Rattle.volume_files.proofs.SparedBlocks.{keep-left, keep-then}

@@ -7,9 +7,10 @@ use Rattle.volume_format.specs.Table.{TableSeen}
 use Rattle.vm_report.specs.vm_script.PlanSeen.{PlanSeen}
 use Rattle.vm_report.specs.vm_script.Rules.{broken_rule}
 use Rattle.vm_report.specs.vm_script.FileNames.{with_files}
-use Rattle.volume_files.specs.Attached.{AreMounted, ArePlaced, bare_disks, numbered_seen}
+use Rattle.volume_files.specs.Attached.{AreMounted, ArePlaced, bare_disks}
+use Rattle.stored_files.specs.Written.{numbered_seen}
 use Rattle.volume_files.specs.Handed.{AreUncounted, members_of}
-use Rattle.volume_files.specs.Unfailed.{counts_of}
+use Rattle.stored_files.specs.Uncut.{counts_of}
 use Rattle.volume_files.specs.Opened.{setup_volumes}
 use Rattle.volume_files.specs.Placing.{Distinct, PlaceStopped, PlacesFiles, RemainThere, attached_numbers, found_files, names_made, placing_read}
 use Rattle.volume_files.proofs.DiskCounts.{members-remain}

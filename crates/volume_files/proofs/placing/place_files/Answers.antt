@@ -6,7 +6,7 @@ use Rattle.std.proofs.lemmas.List.{length-map}
 use Rattle.std.proofs.lemmas.Result.{err_from_is_err_and}
 use Rattle.volume_format.specs.vnode_files.Files.{FilesSeen, block_count}
 use Rattle.volume_files.specs.declared.stops.Refusal.{Refusal}
-use Rattle.volume_files.specs.Attached.{numbered_seen}
+use Rattle.stored_files.specs.Written.{numbered_seen}
 use Rattle.volume_files.specs.Opened.{OpenedFile, with_line_files, mounted_infos}
 use Rattle.volume_files.specs.Handed.{SpareBlock}
 use Rattle.volume_files.specs.Placing.{KeepThere, Gave, HasOpened, LieRight, Stopped, WroteEach, attached_numbers, found_files, line_files, sizes_by_number}

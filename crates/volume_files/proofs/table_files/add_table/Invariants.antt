@@ -1,5 +1,5 @@
 use Rattle.std.specs.Prelude.{◌≡◌, map, take}
-use Rattle.volume_files.specs.Opened.{info_on}
+use Rattle.stored_files.specs.Closed.{info_on}
 use Rattle.volume_files.specs.Placing.{with_infos}
 use Rattle.volume_files.proofs.table_files.add_table.Given as goal
 

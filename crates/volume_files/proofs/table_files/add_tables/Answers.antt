@@ -7,7 +7,7 @@ use Rattle.std.proofs.lemmas.Result.{err_from_is_err_and}
 use Rattle.block_device.specs.declared.numbered.NumberedDisk.{NumberedDisk}
 use Rattle.volume_format.specs.vnode_files.Files.{FilesSeen}
 use Rattle.volume_format.specs.Table.{TableSeen, empty_table}
-use Rattle.volume_files.specs.Opened.{info_on}
+use Rattle.stored_files.specs.Closed.{info_on}
 use Rattle.volume_files.specs.Placing.{IsAddable, IsTooMany, attached_numbers, table_at, with_infos}
 use Rattle.volume_files.proofs.MountLemmas.{number-at, mounted-more, mounted-many}
 use Rattle.volume_files.proofs.table_files.add_tables.Goals as goal

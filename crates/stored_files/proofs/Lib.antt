@@ -1,0 +1,11 @@
+pub mod WrittenTexts
+pub mod FilePieces
+pub mod ShownLines
+pub mod ShownPages
+pub mod ShownFiles
+pub mod ShownSections
+pub mod TraceTexts
+pub mod TableFiles
+pub mod EachDisk
+pub mod TablesWritten
+pub mod Uncut
