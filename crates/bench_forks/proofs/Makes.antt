@@ -7,9 +7,9 @@ use Rattle.seg_vn.specs.declared.attempt.Attempt.{Attempt}
 use Rattle.vm_core.specs.Calls.{AnswersCall, IsOnOwnSpace}
 use Rattle.vm_core.specs.vm_world.Events.{CanTry, IsEvent, MayBear}
 use Rattle.vm_core.specs.vm_world.State.{KernelState, seat_of}
-use Rattle.vm_trials.specs.Trials.{IsTrialState, LiesInOneLine}
+use Rattle.act_trials.specs.Trials.{IsTrialState, LiesInOneLine}
 use Rattle.lane_driver.proofs.MayGo.{bears-none}
-use Rattle.vm_trials.proofs.TrialLemmas.{idle, trial-answered}
+use Rattle.act_trials.proofs.TrialLemmas.{idle, trial-answered}
 use Rattle.bench_forks.specs.Ready.{MayMake}
 
 pub own-bears : (s : KernelState) (p : ℕ) (call : Call) → IsOnOwnSpace call → MayBear s p call

@@ -2,7 +2,7 @@
 ghost use Rattle.std.specs.Prelude.{◌≡◌, ◌<◌, ◌+◌, ◌^◌, IsTrue, None, replicate};
 ghost use Rattle.bench_forks.specs.Ready.{MayMake};
 ghost use Rattle.vm_core.specs.Calls.{IsOnOwnSpace};
-ghost use Rattle.vm_trials.specs.Trials.{IsTrialState, LiesInOneLine};
+ghost use Rattle.act_trials.specs.Trials.{IsTrialState, LiesInOneLine};
 
 use block_device::MemDisk;
 use std::marker::Model;
@@ -17,7 +17,7 @@ pub(crate) struct Machine {
 
 impl Model for Machine {
     ghost use Rattle.std.specs.Prelude.{ℕ, None, replicate};
-    ghost use Rattle.vm_trials.specs.Trials.{IsTrialState};
+    ghost use Rattle.act_trials.specs.Trials.{IsTrialState};
 
     ghost Value = { ℕ };
 

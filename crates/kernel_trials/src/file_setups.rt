@@ -1,6 +1,6 @@
 //! A kernel over two files on two disks.
 ghost use Rattle.std.specs.Prelude.{◌≡◌, ℕ, List, true, false, IfOk};
-ghost use Rattle.vm_trials.specs.Trials.{trial_file, trial_files};
+ghost use Rattle.act_trials.specs.Trials.{trial_file, trial_files};
 
 use crate::trial::{Trial, begin};
 use block_device::Disk;

@@ -20,7 +20,7 @@ use Rattle.seg_ops.specs.vm_world.StateFits.{StateFits}
 use Rattle.seg_ops.proofs.vm_world.StateSteps.{same-seats}
 use Rattle.lane_driver.specs.Lanes.{LaneSeen, HaveOwnSeats, MayMakeCalls, lane_sent, sent_by, next_call, with_lanes}
 use Rattle.vm_trials.specs.Lanes.{MayBeLane, MayDrive, new_lane}
-use Rattle.vm_trials.specs.Trials.{IsTrialStart}
+use Rattle.act_trials.specs.Trials.{IsTrialStart}
 
 -- a process that is alive as the state begins has no parent
 born-top : (s : KernelState) (p : ℕ) → IsOpening s → IsSome (finite.get s.memory.spaces p) → is_top s.parents p ≡ true

@@ -1,3 +1,1 @@
-pub mod TrialLemmas
-pub mod TrialFiles
 pub mod LaneLemmas

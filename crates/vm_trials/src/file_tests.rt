@@ -2,13 +2,11 @@
 //! is told of each act is worked out by hand.
 ghost use Rattle.std.specs.Prelude.{◌≤◌, length};
 
-use crate::tests::Act::{Do, Land, Try};
-use crate::tests::What::{Load, Map, Read, Store, Truncate, Write};
-use crate::tests::{
-    Acts, FAILS_AGAIN, NO_OBJECT, Outcome, PAST, READ_FAILS, STORED, made_and_closed, make_all,
-};
-use crate::trial::Told::{self, Busy, Done, Landed, Sent};
-use crate::trial::Trial;
+use crate::tests::{Acts, Outcome, made_and_closed};
+use act_trials::Act::{Do, Land, Try};
+use act_trials::Told::{self, Busy, Done, Landed, Sent};
+use act_trials::What::{Load, Map, Read, Store, Truncate, Write};
+use act_trials::{FAILS_AGAIN, NO_OBJECT, PAST, READ_FAILS, STORED, Trial, make_all};
 use seg_ops::Hold;
 use std::test::Fail;
 use vm_types::Reply::{self, Mapped, Word};

@@ -1,7 +1,8 @@
 //! Lanes that take turns in a given order, with what is done behind each stretch of it. What is told is worked out by hand.
 use crate::lanes::{Driven, Standing};
-use crate::tests::What::{self, Load, Map};
-use crate::tests::{call_of, opened};
+use crate::tests::opened;
+use act_trials::What::{self, Load, Map};
+use act_trials::call_of;
 use std::alloc::Global;
 use std::test::Fail;
 use vm_types::Call;

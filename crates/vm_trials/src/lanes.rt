@@ -2,7 +2,7 @@
 ghost use Rattle.std.specs.Prelude.{◌≡◌, ◌<◌, ℕ, Some, IfOk, IsTrue, slice_get};
 ghost use Rattle.seg_ops.specs.vm_world.Opening.{IsOpening};
 ghost use Rattle.vm_trials.specs.Lanes.{MayBeLane, MayDrive};
-ghost use Rattle.vm_trials.specs.Trials.{IsTrialStart};
+ghost use Rattle.act_trials.specs.Trials.{IsTrialStart};
 
 use block_device::MemDisk;
 use lane_driver::{Lane, are_lane_calls, drive};

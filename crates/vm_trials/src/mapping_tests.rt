@@ -1,13 +1,12 @@
 //! Syncs, and mappings that change, beside another process's stores and transfers: two processes over two files on two disks in memory, of which one fails
 //! twice. What is told of each act is worked out by hand.
-use crate::tests::Act::{Do, Land, Plan, Try};
-use crate::tests::What::{Load, Map, Protect, Store, Sync, Unmap};
-use crate::tests::{
-    Acts, FAILS_AGAIN, INVALID, NO_MAP, NOT_MAPPED, Outcome, PAST, PROT, READ_FAILS, STORED,
-    made_and_closed, make_all,
+use crate::tests::{Acts, Outcome, made_and_closed};
+use act_trials::Act::{Do, Land, Plan, Try};
+use act_trials::Told::{Busy, Done, Landed, Planned, Sent};
+use act_trials::What::{Load, Map, Protect, Store, Sync, Unmap};
+use act_trials::{
+    FAILS_AGAIN, INVALID, NO_MAP, NOT_MAPPED, PAST, PROT, READ_FAILS, STORED, Trial, make_all,
 };
-use crate::trial::Told::{Busy, Done, Landed, Planned, Sent};
-use crate::trial::Trial;
 use seg_ops::Hold;
 use std::test::Fail;
 use vm_types::Reply::{Mapped, Synced, Word};

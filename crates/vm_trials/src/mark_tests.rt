@@ -3,12 +3,11 @@
 //! after so many entries.
 ghost use Rattle.std.specs.Prelude.{◌≡◌, ◌≤◌, ◌<◌, IfOk, length};
 
-use crate::histories::acts;
-use crate::tests::Act::{self, Clock, Do, Land, Try};
-use crate::tests::What::{self, Load, Map, Store, Sync, Truncate};
-use crate::tests::{make, started};
-use crate::trial::Told::Done;
-use crate::trial::Trial;
+use crate::tests::started;
+use act_trials::Act::{self, Clock, Do, Land, Try};
+use act_trials::Told::Done;
+use act_trials::What::{self, Load, Map, Store, Sync, Truncate};
+use act_trials::{Trial, acts, make};
 use block_device::MemDisk;
 use flat_state::FlatState;
 use std::alloc::{AllocError, Global};

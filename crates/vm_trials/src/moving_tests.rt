@@ -1,13 +1,11 @@
 //! Parts of reads and writes, and Truncates, while pages of the file are read in or pushed: two processes over two files on two disks in memory, of which one
 //! fails twice. What is told of each act is worked out by hand.
 use crate::file_tests::bytes;
-use crate::tests::Act::{Clock, Do, Land, Try};
-use crate::tests::What::{Load, Map, Read, Store, Sync, Truncate, Write};
-use crate::tests::{
-    Acts, FAILS_AGAIN, Outcome, PAST, READ_FAILS, STORED, made_and_closed, make_all,
-};
-use crate::trial::Told::{Busy, Done, Landed, Sent, Still};
-use crate::trial::Trial;
+use crate::tests::{Acts, Outcome, made_and_closed};
+use act_trials::Act::{Clock, Do, Land, Try};
+use act_trials::Told::{Busy, Done, Landed, Sent, Still};
+use act_trials::What::{Load, Map, Read, Store, Sync, Truncate, Write};
+use act_trials::{FAILS_AGAIN, PAST, READ_FAILS, STORED, Trial, make_all};
 use seg_ops::Hold;
 use std::test::Fail;
 use vm_types::Reply::{Mapped, Synced, Word};

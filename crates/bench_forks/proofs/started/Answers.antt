@@ -5,8 +5,8 @@ use Rattle.seg_ops.specs.page_store.Bays.{pairs_seen}
 use Rattle.block_device.specs.declared.mem_disk.MemDisk.{MemDisk}
 use Rattle.vnode_files.specs.Files.{FilesSeen, no_files}
 use Rattle.vm_core.specs.Setup.{FilesOnDisks}
-use Rattle.vm_trials.proofs.TrialFiles.{none-on-disks}
-use Rattle.vm_trials.proofs.TrialLemmas.{trial-starts}
+use Rattle.act_trials.proofs.TrialFiles.{none-on-disks}
+use Rattle.act_trials.proofs.TrialLemmas.{trial-starts}
 use Rattle.bench_forks.proofs.started.Goals as goal
 
 pub start-requires-clause-files : goal.start-requires-clause-files

@@ -1,7 +1,7 @@
 use Rattle.std.proofs.Common.{ap, ◌∙◌}
 use Rattle.vnode_files.specs.Files.{FilesSeen, with_disk}
 use Rattle.vnode_files.specs.declared.vnode.FileInfo.{FileInfo}
-use Rattle.vm_trials.proofs.TrialFiles.{is-set, first-set, second-set}
+use Rattle.act_trials.proofs.TrialFiles.{is-set, first-set, second-set}
 use Rattle.kernel_trials.proofs.file_setups.new_files.Goals as goal
 
 pub add-requires-clause-disk : goal.add-requires-clause-disk

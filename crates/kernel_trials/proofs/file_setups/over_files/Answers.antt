@@ -2,7 +2,7 @@ use Rattle.std.proofs.Common.{◌≡◌, ℕ, List, [], ◌∷◌, ◌++◌, ◌
 use Rattle.vm_core.specs.page_store.Bays.{pairs_seen}
 use Rattle.vnode_files.specs.Files.{FilesSeen}
 use Rattle.vm_core.specs.Setup.{FilesOnDisks}
-use Rattle.vm_trials.proofs.TrialFiles.{on-disks}
+use Rattle.act_trials.proofs.TrialFiles.{on-disks}
 use Rattle.kernel_trials.proofs.file_setups.over_files.Goals as goal
 
 pub start-requires-clause-files : goal.start-requires-clause-files

@@ -5,7 +5,7 @@ use Rattle.block_device.specs.declared.mem_disk.MemDisk.{MemDisk}
 use Rattle.seg_ops.specs.page_store.Bays.{pairs_seen}
 use Rattle.vnode_files.specs.Files.{FilesSeen}
 use Rattle.vm_core.specs.Setup.{FilesOnDisks}
-use Rattle.vm_trials.proofs.TrialFiles.{on-disks}
+use Rattle.act_trials.proofs.TrialFiles.{on-disks}
 use Rattle.vm_trials.proofs.tests.opened.Goals as goal
 
 pub start-requires-clause-files : goal.start-requires-clause-files

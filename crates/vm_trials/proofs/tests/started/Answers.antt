@@ -1,4 +1,4 @@
-use Rattle.vm_trials.proofs.TrialLemmas.{trial-starts}
+use Rattle.act_trials.proofs.TrialLemmas.{trial-starts}
 use Rattle.vm_trials.proofs.tests.started.Goals as goal
 
 pub new-requires : goal.new-requires

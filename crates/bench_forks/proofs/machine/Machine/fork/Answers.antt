@@ -1,7 +1,7 @@
 use Rattle.std.proofs.Common.{None}
 use Rattle.std.specs.Prelude.{replicate}
 use Rattle.vm_types.specs.declared.call.Call.TheVariants.{Fork}
-use Rattle.vm_trials.proofs.TrialLemmas.{idle, trial-at}
+use Rattle.act_trials.proofs.TrialLemmas.{idle, trial-at}
 use Rattle.bench_forks.proofs.Makes.{can-try, after-call}
 use Rattle.bench_forks.proofs.machine.Machine.fork.Goals as goal
 

@@ -1,6 +1,6 @@
 use Rattle.std.proofs.Common.{◌+◌, None}
 use Rattle.std.specs.Prelude.{replicate}
-use Rattle.vm_trials.proofs.TrialLemmas.{idle, trial-at}
+use Rattle.act_trials.proofs.TrialLemmas.{idle, trial-at}
 use Rattle.bench_forks.proofs.Makes.{own-bears, can-try, after-call}
 use Rattle.bench_forks.proofs.machine.Machine.make.Goals as goal
 
