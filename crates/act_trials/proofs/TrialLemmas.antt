@@ -20,7 +20,7 @@ use Rattle.seg_ops.specs.vm_world.State.{KernelState, Fixed, Seats, Sent, Caller
 use Rattle.seg_ops.proofs.vm_world.StateSteps.{same-seats}
 use Rattle.seg_ops.proofs.vm_world.Told.{event_law}
 use Rattle.vm_core.specs.Calls.{AnswersCall}
-use Rattle.vm_core.specs.Finish.{FitsStill}
+use Rattle.vm_core.specs.kernel_close.Finish.{FitsStill}
 use Rattle.vm_core.specs.Fits.{FitsAt}
 use Rattle.vm_core.specs.Flights.{EndsWith, IsBack, sent_with}
 use Rattle.lane_driver.proofs.MayGo.{one-entry}

@@ -4,7 +4,7 @@ use Rattle.std.specs.Prelude.{slice_index_or}
 use Rattle.std.specs.List.{All}
 use Rattle.kernel_lock.specs.Seats.{HasAll}
 use Rattle.vm_core.proofs.vm_world.Told.{event_law}
-use Rattle.vm_core.specs.Finish.{FitsStill}
+use Rattle.vm_core.specs.kernel_close.Finish.{FitsStill}
 use Rattle.vm_core.specs.vm_world.State.{KernelState, Seats, seats_of}
 use Rattle.vm_kernel.specs.Callers.{KernelSeen, CallerSeen, caller_part}
 use Rattle.vm_kernel.specs.Rooms.{AreRooms}

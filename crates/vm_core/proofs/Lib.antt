@@ -1,10 +1,3 @@
-pub mod Records
-pub mod Fills
-pub mod Pushes
-pub mod OnePush
-pub mod Finishes
-pub mod MarkTables
-pub mod LeftMarks
 pub mod Ledgers
 pub mod Tops
 pub mod OwnFiles
@@ -24,3 +17,4 @@ pub mod Looks
 pub mod Hands
 pub use Rattle.fault_entry.proofs.vm_world as vm_world
 pub use Rattle.fault_entry.proofs.page_store as page_store
+pub use Rattle.kernel_close.proofs as kernel_close

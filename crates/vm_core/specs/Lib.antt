@@ -1,6 +1,3 @@
-pub mod Finish
-pub mod LeftMarks
-pub mod Closing
 pub mod Ledger
 pub mod Marks
 pub mod State
@@ -22,3 +19,4 @@ pub use Rattle.fault_entry.specs.page_store as page_store
 pub use Rattle.fault_entry.specs.vm_world as vm_world
 pub use Rattle.disk_marks.specs as disk_marks
 pub use Rattle.fault_entry.specs as fault_entry
+pub use Rattle.kernel_close.specs as kernel_close

@@ -1,6 +1,5 @@
 //! Transfers that end.
 ghost use Rattle.std.specs.Prelude.{◌≡◌, ◌≢◌, ◌≤◌, ℕ, Some, None, false, length, option_map};
-ghost use Rattle.fault_entry.specs.flat_model.Counted.{top_count};
 ghost use Rattle.fault_entry.specs.page_store.Bays.{bay_at, home};
 ghost use Rattle.fault_entry.specs.page_store.Flight.{IsPerformed, fresh};
 ghost use Rattle.fault_entry.specs.page_store.Notes.{Note, Notes};
@@ -19,13 +18,7 @@ ghost use Rattle.vm_core.specs.Marks.{marks_landed};
 use crate::kept::forget;
 use crate::state::VmState;
 use fault_entry::{Call, Disk, Flight, Reply, end_flight};
-
-// No count is past the end of counts.
-pub(crate) fn within_counts(count: u64)
-    ensures { count ≤ top_count }
-{
-    let _ = count;
-}
+use kernel_close::within_counts;
 
 impl<D: Disk> VmState<D> {
     /// Ends a transfer: its frame and its disk come back. `call` is the process and call that it was for. Some, with the device

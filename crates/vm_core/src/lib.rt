@@ -3,16 +3,13 @@
 #![tactic(auto)]
 
 mod begins;
-mod blanks;
 mod calls;
 mod clock;
-mod closing;
 mod cuts;
 mod ends;
 mod files;
 mod finish;
 mod forks;
-mod history;
 mod hits;
 mod kept;
 mod ledger;
@@ -25,8 +22,7 @@ mod syncs;
 
 pub use disk_marks::Mark;
 pub use fault_entry::{Answer, Attempt, Call, Disk, Entry, Flight, Hold, Plan, Reply};
-pub use finish::Finished;
-pub use history::KernelHistory;
 pub use kept::Kept;
+pub use kernel_close::{Finished, KernelHistory};
 pub use setup::Setup;
 pub use state::VmState;

@@ -5,7 +5,7 @@ use Rattle.vm_core.specs.page_store.declared.plan.Plan.{Plan}
 use Rattle.volume_files.specs.vm_types.declared.call.Call.{Call}
 use Rattle.volume_files.specs.vm_types.declared.call.Reply.{Reply}
 use Rattle.vm_core.specs.Calls.{IsBusy, IsNeeded}
-use Rattle.vm_core.specs.Finish.{FitsStill}
+use Rattle.vm_core.specs.kernel_close.Finish.{FitsStill}
 use Rattle.vm_core.specs.vm_world.Events.{IsEvent}
 use Rattle.vm_core.specs.vm_world.State.{KernelState}
 use Rattle.vm_run.specs.Lines.{AreOfOne, GrowsWith, HasOneMore, MadeNothing}

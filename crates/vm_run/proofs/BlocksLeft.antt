@@ -18,7 +18,7 @@ use Rattle.volume_files.specs.flat_model.Words.{pages_in}
 use Rattle.vm_core.specs.vm_world.disk_marks.Marks.{MarksSeen, mark_row}
 use Rattle.vm_core.specs.vm_world.mark_laws.MarksFit.{BlockFits, FailureFits, FailuresFit, MarksFit}
 use Rattle.vm_core.specs.vm_world.mark_laws.Pages.{disk_place}
-use Rattle.vm_core.specs.Finish.{HoldAllFiles, HoldsFiles, HoldsOrKeeps, HoldsPage, IsFilePage, IsLastFault, KeepsDisk, KeepsOtherBlocks, LeaveAllPages, LeavesPages, LiesIn, disk_at, disks_of}
+use Rattle.vm_core.specs.kernel_close.Finish.{HoldAllFiles, HoldsFiles, HoldsOrKeeps, HoldsPage, IsFilePage, IsLastFault, KeepsDisk, KeepsOtherBlocks, LeaveAllPages, LeavesPages, LiesIn, disk_at, disks_of}
 use Rattle.vm_core.specs.vm_world.DiskPlaces.{faults_in}
 use Rattle.vm_core.specs.vm_world.Events.{IsSince}
 use Rattle.vm_core.specs.vm_world.FlatMemory.{flat_memory}
@@ -28,7 +28,7 @@ use Rattle.vm_core.specs.vm_world.Pages.{page_value}
 use Rattle.vm_core.specs.vm_world.State.{KernelState}
 use Rattle.vm_core.specs.vm_world.StateFits.{StateFits}
 use Rattle.vm_core.specs.vm_world.World.{AllTell, World}
-use Rattle.vm_core.proofs.Fills.{number-of}
+use Rattle.vm_core.proofs.kernel_close.Fills.{number-of}
 use Rattle.vm_core.proofs.vm_world.FlatWhole.{some-inj}
 use Rattle.volume_files.specs.Attached.{bare_disks}
 use Rattle.volume_files.specs.Handed.{HaveTold}

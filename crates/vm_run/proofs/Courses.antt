@@ -1,5 +1,5 @@
 -- A run that began: what it left, and what that is of what was asked.
-use Rattle.vm_core.specs.Finish.{disks_of}
+use Rattle.vm_core.specs.kernel_close.Finish.{disks_of}
 use Rattle.vm_run.proofs.StartedFlat.{infos-fresh as made-infos}
 use Rattle.volume_files.proofs.FileLineLemmas.{names-made as names-fresh}
 use Rattle.std.proofs.Common.{◌≡◌, ℕ, zero, suc, ◌≤◌, ◌<◌, ◌==◌, Bool, true, false, List, [], ◌∷◌, length, map, refl, sym, ap, ◌∙◌, subst, arith, inl, inr}

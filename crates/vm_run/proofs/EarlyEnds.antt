@@ -5,7 +5,7 @@ use Rattle.volume_files.specs.block_device.Counts.{HasRisen}
 use Rattle.volume_files.specs.block_device.DiskSeen.{DiskSeen}
 use Rattle.volume_files.specs.block_device.OpenSeen.{OpenFaultSeen}
 use Rattle.volume_files.specs.block_device.StreamSeen.{SinkSeen}
-use Rattle.vm_core.specs.Finish.{HistorySeen}
+use Rattle.vm_core.specs.kernel_close.Finish.{HistorySeen}
 use Rattle.vm_run.specs.declared.ending.Ending.{Ending}
 use Rattle.vm_run.specs.declared.ending.Ending.TheVariants as ending
 use Rattle.vm_run.specs.declared.ending.Stop.{Stop}

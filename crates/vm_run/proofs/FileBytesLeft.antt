@@ -28,9 +28,9 @@ use Rattle.volume_files.specs.flat_model.Step.{is_bit_set, files_cleared}
 use Rattle.volume_files.specs.flat_model.Words.{Page, IsPage, pages_in}
 use Rattle.volume_files.proofs.flat_model.FileBytes.{file_bytes-without_tail}
 use Rattle.volume_files.proofs.flat_model.WellFormed.{IsFlat-tails_cleared}
-use Rattle.vm_core.specs.Finish.{IsFilePage, disk_at, HoldAllFiles, HoldsPage}
-use Rattle.vm_core.proofs.Fills.{block-within}
-use Rattle.vm_core.proofs.Records.{disk-kept, info-kept, page-kept, records-back}
+use Rattle.vm_core.specs.kernel_close.Finish.{IsFilePage, disk_at, HoldAllFiles, HoldsPage}
+use Rattle.vm_core.proofs.kernel_close.Fills.{block-within}
+use Rattle.vm_core.proofs.kernel_close.Records.{disk-kept, info-kept, page-kept, records-back}
 use Rattle.vm_core.specs.vm_world.Events.{IsSince}
 use Rattle.vm_core.specs.vm_world.FlatMemory.{file_with_pages, files_with_pages, flat_memory, pages_from}
 use Rattle.vm_core.specs.vm_world.Opening.{no_seats}

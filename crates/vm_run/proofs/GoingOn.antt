@@ -8,7 +8,7 @@ use Rattle.volume_files.specs.vm_types.declared.call.Call.{Call}
 use Rattle.volume_files.specs.vm_types.declared.call.Entry.{Entry}
 use Rattle.volume_files.specs.flat_model.OpenLaws.{IsOpenPart, last_entry}
 use Rattle.volume_files.specs.flat_model.Told.{entries_of}
-use Rattle.vm_core.specs.Finish.{FitsStill}
+use Rattle.vm_core.specs.kernel_close.Finish.{FitsStill}
 use Rattle.vm_core.specs.Fits.{FitsAt}
 use Rattle.vm_core.specs.vm_world.Events.{IsEvent, CanTry}
 use Rattle.vm_core.specs.vm_world.SeatLaws.{IsKnownAlive, MayComeNext}

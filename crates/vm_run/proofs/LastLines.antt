@@ -5,7 +5,7 @@ use Rattle.std.proofs.Math.Seq.{take-nil}
 use Rattle.volume_files.specs.block_device.Counts.{HasRisen}
 use Rattle.volume_files.specs.block_device.DiskSeen.{DiskSeen}
 use Rattle.volume_files.specs.block_device.StreamSeen.{SinkSeen, text_with_more}
-use Rattle.vm_core.specs.Finish.{HistorySeen}
+use Rattle.vm_core.specs.kernel_close.Finish.{HistorySeen}
 use Rattle.vm_run.specs.declared.ending.Ending.{Ending}
 use Rattle.vm_run.specs.declared.ending.Ending.TheVariants as ending
 use Rattle.volume_files.specs.stored_files.declared.showing.Heading.TheVariants.{Report}

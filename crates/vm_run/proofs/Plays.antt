@@ -12,7 +12,7 @@ use Rattle.volume_files.specs.flat_model.Counted.{Counted}
 use Rattle.volume_files.specs.flat_model.Flat.{Flat}
 use Rattle.volume_files.specs.flat_model.Shapes.{RefusesAsDue}
 use Rattle.volume_files.specs.flat_model.Told.{entries_of}
-use Rattle.vm_core.specs.Finish.{FitsStill, disks_of}
+use Rattle.vm_core.specs.kernel_close.Finish.{FitsStill, disks_of}
 use Rattle.volume_files.specs.vm_script.Blocks.{IsProcessBlock}
 use Rattle.volume_files.specs.vm_script.declared.plan.PlanLine.{PlanLine}
 use Rattle.volume_files.specs.vm_script.PlanSeen.{PlanSeen}

@@ -34,10 +34,10 @@ use Rattle.vm_core.proofs.vm_world.PageNames.{index-of, page-cases, file-place, 
 use Rattle.vm_core.proofs.vm_world.StateSteps.{disk_there}
 use Rattle.vm_core.proofs.vm_world.FlatWhole.{some-inj}
 use Rattle.vm_core.proofs.vm_world.Told.{event_law}
-use Rattle.vm_core.specs.Closing.{AreDisksOf}
-use Rattle.vm_core.specs.Finish.{disk_at, disks_of, HoldAllFiles, IsLastFault, LeaveAllPages, KeepsDisk, KeepDisks, KeepsOtherBlocks, KeepRecords}
-use Rattle.vm_core.proofs.Fills.{are-kept, number-of}
-use Rattle.vm_core.proofs.Finishes.{still, disk-in-order, are-disks}
+use Rattle.vm_core.specs.kernel_close.Closing.{AreDisksOf}
+use Rattle.vm_core.specs.kernel_close.Finish.{disk_at, disks_of, HoldAllFiles, IsLastFault, LeaveAllPages, KeepsDisk, KeepDisks, KeepsOtherBlocks, KeepRecords}
+use Rattle.vm_core.proofs.kernel_close.Fills.{are-kept, number-of}
+use Rattle.vm_core.proofs.kernel_close.Finishes.{still, disk-in-order, are-disks}
 use Rattle.volume_files.specs.Attached.{bare_disks}
 use Rattle.volume_files.specs.Handed.{HaveTold, IsSwapFor, swap_members}
 use Rattle.vm_run.specs.Played.{LeftSeen, IsDiskOf, DisksCameBack, IsClosingFault, KernelLeaves, SwapCameBack}

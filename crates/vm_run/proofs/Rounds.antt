@@ -3,7 +3,7 @@ use Rattle.std.proofs.Common.{◌≡◌, ℕ, ◌+◌, ◌≤◌, false, true, l
 use Rattle.std.specs.Prelude.{is_some}
 use Rattle.volume_files.specs.vm_types.declared.call.Call.{Call}
 use Rattle.vm_core.specs.Calls.{IsNeeded}
-use Rattle.vm_core.specs.Finish.{FitsStill}
+use Rattle.vm_core.specs.kernel_close.Finish.{FitsStill}
 use Rattle.vm_core.specs.Flights.{error_at_end}
 use Rattle.vm_core.specs.page_store.declared.plan.Plan.{Plan}
 use Rattle.vm_core.specs.vm_world.Events.{IsEvent}

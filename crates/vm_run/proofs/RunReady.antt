@@ -6,7 +6,7 @@ use Rattle.std.proofs.lemmas.List.{length-map}
 use Rattle.volume_files.specs.block_device.DiskSeen.{DiskSeen}
 use Rattle.volume_files.specs.block_device.StreamSeen.{SinkSeen}
 use Rattle.volume_files.specs.block_device.declared.rack.Spec.{Spec}
-use Rattle.vm_core.specs.Finish.{HistorySeen}
+use Rattle.vm_core.specs.kernel_close.Finish.{HistorySeen}
 use Rattle.volume_files.specs.vm_script.PlanSeen.{PlanSeen}
 use Rattle.volume_files.specs.vm_script.Rules.{broken_rule}
 use Rattle.volume_files.specs.vm_script.Told.{Told, ToldFront}

@@ -14,7 +14,7 @@ use Rattle.volume_files.specs.block_device.declared.numbered.NumberedDisk.{Numbe
 use Rattle.volume_files.specs.block_device.declared.rack.Spec.{Spec}
 use Rattle.volume_files.specs.volume_disks.declared.volume_spec.VolumeSpec.{VolumeSpec}
 use Rattle.volume_files.proofs.flat_model.Bytes.{All-slice_get}
-use Rattle.vm_core.specs.Finish.{HistorySeen}
+use Rattle.vm_core.specs.kernel_close.Finish.{HistorySeen}
 use Rattle.volume_files.specs.vm_script.PlanSeen.{PlanSeen}
 use Rattle.volume_files.specs.vnode_files.Files.{FilesSeen}
 use Rattle.volume_files.specs.vnode_files.Vnode.{VnodeSeen}

@@ -3,7 +3,7 @@ use Rattle.std.proofs.Common.{◌≡◌, ℕ, ◌++◌, List, [], ◌∷◌, Opt
 use Rattle.volume_files.specs.vm_types.declared.call.Call.{Call}
 use Rattle.volume_files.specs.vm_types.declared.call.Entry.{Entry}
 use Rattle.volume_files.specs.vm_types.declared.call.Reply.{Reply}
-use Rattle.vm_core.specs.Finish.{FitsStill}
+use Rattle.vm_core.specs.kernel_close.Finish.{FitsStill}
 use Rattle.vm_core.specs.Fits.{FitsAt}
 use Rattle.vm_core.specs.page_store.declared.plan.Plan.{Plan}
 use Rattle.vm_core.specs.Flights.{EndsWith, IsKeptFor}

@@ -10,7 +10,7 @@ use Rattle.volume_files.specs.vnode_files.Files.{vnode_at}
 use Rattle.volume_files.specs.vnode_files.Grow.{page_count}
 use Rattle.volume_files.specs.flat_model.Flat.{Flat}
 use Rattle.volume_files.specs.flat_model.History.{replay}
-use Rattle.vm_core.specs.Finish.{IsPageBlock, KeepsDisk, KeepsOtherBlocks, disk_at, disks_of}
+use Rattle.vm_core.specs.kernel_close.Finish.{IsPageBlock, KeepsDisk, KeepsOtherBlocks, disk_at, disks_of}
 use Rattle.vm_core.specs.vm_world.DiskPlaces.{FixedOfDisk, disk_fixed, seen_in}
 use Rattle.vm_core.specs.vm_world.Events.{IsSince, IsUnkept}
 use Rattle.vm_core.specs.vm_world.FlatMemory.{flat_memory}

@@ -4,7 +4,7 @@ use Rattle.volume_files.specs.vm_types.declared.call.Entry.{Entry}
 use Rattle.volume_files.specs.vm_types.declared.call.Reply.TheVariants.{Io}
 use Rattle.volume_files.specs.block_device.DiskSeen.{DiskSeen}
 use Rattle.volume_files.specs.block_device.declared.disk_fault.DiskFault.{DiskFault}
-use Rattle.vm_core.specs.Finish.{HistorySeen}
+use Rattle.vm_core.specs.kernel_close.Finish.{HistorySeen}
 use Rattle.volume_files.specs.vm_script.PlanSeen.{PlanSeen}
 use Rattle.volume_files.specs.Handed.{IsCountedBy, disk_handed}
 use Rattle.vm_run.specs.declared.ending.Stop.{Stop}

@@ -12,8 +12,8 @@ use Rattle.vm_core.specs.page_hash.declared.PageName.{PageName}
 use Rattle.vm_core.specs.page_store.Bays.{BaySeen, bay_at, bay_of, pairs_seen}
 use Rattle.volume_files.specs.vnode_files.Files.{FilesSeen}
 use Rattle.volume_files.specs.vnode_files.Vnode.{VnodeSeen}
-use Rattle.vm_core.specs.declared.finish.Finished.{Finished}
-use Rattle.vm_core.specs.Finish.{HistorySeen, disks_of}
+use Rattle.vm_core.specs.kernel_close.declared.finish.Finished.{Finished}
+use Rattle.vm_core.specs.kernel_close.Finish.{HistorySeen, disks_of}
 use Rattle.volume_files.specs.vm_script.Counts.{entry_count}
 use Rattle.volume_files.specs.vm_script.PlanSeen.{PlanSeen}
 use Rattle.volume_files.specs.vm_script.Processes.{kernel_parents}

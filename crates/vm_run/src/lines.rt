@@ -5,7 +5,7 @@ ghost use Rattle.volume_files.specs.flat_model.Told.{entries_of};
 ghost use Rattle.volume_files.specs.vm_script.declared.plan.PlanLine.{PlanLine};
 ghost use Rattle.volume_files.specs.vm_script.Told.{Spell};
 ghost use Rattle.vm_core.specs.Calls.{TakesMemory};
-ghost use Rattle.vm_core.specs.Finish.{FitsStill};
+ghost use Rattle.vm_core.specs.kernel_close.Finish.{FitsStill};
 ghost use Rattle.vm_core.specs.vm_world.Events.{IsEvent};
 ghost use Rattle.block_runs.specs.Conditions.{MayMakeLine};
 ghost use Rattle.block_runs.specs.Lines.{IsCallLine, LineTakesMemory, NamesFile, own_of};

@@ -6,7 +6,7 @@ ghost use Rattle.volume_files.specs.vm_script.PlanSeen.{PlanSeen};
 ghost use Rattle.volume_files.specs.vnode_files.Files.{FilesSeen};
 ghost use Rattle.volume_files.specs.vnode_files.Vnode.{IsSoundVnode};
 ghost use Rattle.vm_run.specs.Alone.{is_alone};
-ghost use Rattle.vm_core.specs.Finish.{FitsStill};
+ghost use Rattle.vm_core.specs.kernel_close.Finish.{FitsStill};
 ghost use Rattle.vm_core.specs.vm_world.State.{KernelState};
 ghost use Rattle.vm_run.specs.Played.{IsStarted, HasPlayed, KernelLeaves, left_seen, IsPlayable, rooms_from};
 

@@ -1,5 +1,5 @@
 use Rattle.vm_core.specs.page_store.Bays.{bay_at}
-use Rattle.vm_core.proofs.Fills.{whole-seen}
+use Rattle.vm_core.proofs.kernel_close.Fills.{whole-seen}
 use Rattle.vm_run.specs.Played.{left_seen}
 use Rattle.vm_run.proofs.Plays.{is-left, swap-seen}
 use Rattle.vm_run.proofs.Returned.{Closes}

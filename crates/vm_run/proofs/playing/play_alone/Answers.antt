@@ -4,7 +4,7 @@ use mathlib.Core.List.{IsPrefix}
 use Rattle.volume_files.specs.flat_model.Told.{entries_of}
 use Rattle.volume_files.specs.vm_script.declared.plan.PlanLine.{PlanLine}
 use Rattle.volume_files.specs.vm_script.Told.{Spell}
-use Rattle.vm_core.proofs.Finishes.{ok-then}
+use Rattle.vm_core.proofs.kernel_close.Finishes.{ok-then}
 use Rattle.vm_core.specs.vm_world.Opening.{no_seats}
 use Rattle.block_runs.specs.Lines.{IsCallLine, own_of}
 use Rattle.block_runs.specs.Rows.{IsOnWay}

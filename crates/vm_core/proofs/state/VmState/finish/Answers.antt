@@ -9,9 +9,9 @@ use Rattle.fault_entry.specs.vm_world.Opening.{no_seats}
 use Rattle.fault_entry.specs.vm_world.State.{KernelState, Seats, notes_of}
 use Rattle.fault_entry.specs.vm_world.StateFits.{StateFits}
 use Rattle.fault_entry.specs.vm_world.World.{World, AllTell}
-use Rattle.vm_core.specs.Finish.{disks_of, HoldAllFiles, LeaveAllPages}
-use Rattle.vm_core.specs.LeftMarks.{LeavesMarks}
-use Rattle.vm_core.proofs.LeftMarks.{marks-left}
+use Rattle.kernel_close.specs.Finish.{disks_of, HoldAllFiles, LeaveAllPages}
+use Rattle.kernel_close.specs.LeftMarks.{LeavesMarks}
+use Rattle.kernel_close.proofs.LeftMarks.{marks-left}
 use Rattle.vm_core.proofs.state.VmState.finish.Goals as goal
 
 -- no seat's note, where no seat has anything outside

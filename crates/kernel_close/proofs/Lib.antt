@@ -1,0 +1,7 @@
+pub mod Records
+pub mod Fills
+pub mod Pushes
+pub mod OnePush
+pub mod Finishes
+pub mod MarkTables
+pub mod LeftMarks

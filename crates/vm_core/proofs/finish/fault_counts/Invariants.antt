@@ -1,9 +1,0 @@
-use Rattle.std.proofs.Common.{◌≡◌, ℕ, ◌<◌, length, None, slice_index_or}
-use Rattle.fault_entry.specs.page_store.Bays.{bay_at, home_faults}
-use Rattle.vm_core.proofs.finish.fault_counts.Given as goal
-
-abbrev pub invariant-loop-disk : goal.invariant-loop-disk
-invariant-loop-disk g l = record {
-  long : length l.counts ≡ 9;
-  told : (k : ℕ) → k < l.disk → slice_index_or l.counts k None ≡ home_faults (bay_at l.store.bays k);
-}
