@@ -217,7 +217,7 @@ def marks():
 
 
 SAYS = {
-    'sunvm': 'the program', 'vm_script': 'plans', 'vm_report': 'texts', 'trace_text': 'traces read', 'volume_format': 'block 0', 'kernel_lock': 'one holder', 'vm_core': 'events', 'kernel_close': 'disks come out', 'vm_kernel': "threads' calls",
+    'sunvm': 'the program', 'vm_script': 'plans', 'vm_report': 'texts', 'trace_text': 'traces read', 'volume_format': 'block 0', 'kernel_lock': 'one holder', 'vm_core': 'events', 'kernel_close': 'disks come out', 'clock_hands': 'hands move', 'vm_kernel': "threads' calls",
     'fault_entry': 'loads, stores', 'mmap_calls': 'mappings', 'proc_calls': 'fork, exit', 'file_calls': 'files', 'seg_vn': 'segments', 'home_pages': 'pages come home', 'seg_ops': 'small steps',
     'vm_world': "state's meaning", 'page_store': 'pages by name', 'anon_slots': 'counts', 'anon_map': 'arrays', 'hat_layer': 'translations',
     'addr_space': 'pieces', 'core_arena': 'frames', 'page_hash': 'names', 'page_lists': 'free, cached', 'page_lock': 'holders, bits',

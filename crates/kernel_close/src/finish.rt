@@ -3,16 +3,12 @@ ghost use Rattle.std.specs.Prelude.{◌≡◌, ◌≤◌, ℕ, None, IfNone, IfS
 ghost use Rattle.seg_ops.specs.page_store.Bays.{bay_at, home, missing, home_faults, pairs_seen};
 ghost use Rattle.seg_ops.specs.page_store.Notes.{no_notes};
 ghost use Rattle.seg_ops.specs.page_store.Seen.{IsSoundStore};
-ghost use Rattle.kernel_close.specs.Finish.{FitsStill, disks_of, HoldAllFiles, LeaveAllPages, IsLastFault, KeepDisks, KeepRecords, HaveNoBlankPage};
+ghost use Rattle.kernel_close.specs.Finish.{disks_of, HoldAllFiles, LeaveAllPages, IsLastFault, KeepDisks, KeepRecords, HaveNoBlankPage};
 ghost use Rattle.kernel_close.specs.Closing.{WriteAllPages};
-ghost use Rattle.kernel_close.specs.LeftMarks.{LeavesMarks};
 ghost use Rattle.seg_ops.specs.flat_model.Counted.{top_count};
-ghost use Rattle.seg_ops.specs.flat_model.Flat.{Flat};
 ghost use Rattle.seg_ops.specs.vm_world.MemoryFits.{MemoryFits};
 ghost use Rattle.seg_ops.specs.vm_world.NotesFit.{NotesFit};
-ghost use Rattle.seg_ops.specs.vm_world.Opening.{no_seats};
 ghost use Rattle.seg_ops.specs.vm_world.Segments.{Spaces};
-ghost use Rattle.seg_ops.specs.vm_world.StateFits.{StateFits};
 ghost use Rattle.seg_ops.specs.vm_world.World.{world_seen, AllTell};
 
 use crate::blanks::fill_if_pushed;

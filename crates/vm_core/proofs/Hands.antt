@@ -10,7 +10,7 @@ use Rattle.fault_entry.specs.vm_world.State.{KernelState, KeptPlan, Caller}
 use Rattle.fault_entry.specs.vm_world.StateSteps.{PendsTails}
 use Rattle.fault_entry.specs.vm_world.World.{World}
 use Rattle.fault_entry.proofs.vm_world.StateSteps.{state_rule}
-use Rattle.vm_core.specs.Clock.{after_hand, kept_of_clock}
+use Rattle.clock_hands.specs.Clock.{after_hand, kept_of_clock}
 
 no-tails : (w : World) (pending : ℕ) → PendsTails w (λ name. false) pending pending
 no-tails w pending = record { bits = λ g lt. or-false (is_bit_set pending g); below = λ h. h }

@@ -12,8 +12,6 @@ pub mod Rising
 pub mod AnsweredMarks
 pub mod Served
 pub mod Forked
-pub mod Uses
-pub mod Looks
 pub mod Hands
 pub use Rattle.fault_entry.proofs.vm_world as vm_world
 pub use Rattle.fault_entry.proofs.page_store as page_store

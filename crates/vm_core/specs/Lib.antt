@@ -4,7 +4,6 @@ pub mod State
 pub mod StateCode
 pub mod Setup
 pub mod Fits
-pub mod Clock
 pub mod Flights
 pub mod Calls
 pub mod Answered
@@ -20,3 +19,4 @@ pub use Rattle.fault_entry.specs.vm_world as vm_world
 pub use Rattle.disk_marks.specs as disk_marks
 pub use Rattle.fault_entry.specs as fault_entry
 pub use Rattle.kernel_close.specs as kernel_close
+pub use Rattle.clock_hands.specs as clock_hands

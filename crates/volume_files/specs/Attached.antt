@@ -1,5 +1,5 @@
 -- Disks that are attached, and files that are placed on them, before the processes run. Inside: no clause of `run` cites this.
-use Rattle.std.specs.Prelude.{ℕ, ◌≡◌, ◌≢◌, ◌<◌, ◌≤◌, ◌⊎◌, List, [], ◌∷◌, length, map, All, Ok, Some, IfSome, IsSome, Option, option_map, slice_get, vec_capacity}
+use Rattle.std.specs.Prelude.{ℕ, ◌≡◌, ◌<◌, ◌≤◌, ◌⊎◌, List, [], ◌∷◌, length, map, All, Ok, Some, IfSome, IsSome, Option, option_map, slice_get, vec_capacity}
 use Rattle.std.specs.FinMap as finite
 use Rattle.block_device.specs.DiskSeen.{DiskSeen}
 use Rattle.block_device.specs.OpenSeen.{OpenFaultSeen}
@@ -11,7 +11,7 @@ use Rattle.volume_format.specs.vnode_files.Files.{FilesSeen}
 use Rattle.volume_format.specs.vnode_files.Grow.{page_count}
 use Rattle.volume_format.specs.vnode_files.Vnode.{fresh_vnode}
 use Rattle.volume_format.specs.Table.{TableSeen}
-use Rattle.volume_format.specs.Volume.{IsVolumeTable, IsVolumeName}
+use Rattle.volume_format.specs.Volume.{IsVolumeTable}
 use Rattle.vm_report.specs.vm_script.PlanSeen.{PlanSeen}
 use Rattle.vm_report.specs.vm_script.Rules.{amounts_of}
 use Rattle.volume_files.specs.declared.attaching.Attached.{Attached}
@@ -21,7 +21,7 @@ use Rattle.volume_files.specs.declared.stops.HandedBack.{HandedBack}
 use Rattle.stored_files.specs.Closed.{StoreFiles, info_at}
 use Rattle.volume_files.specs.Handed.{AreWrittenAt, HaveTold, HandsFront, HandsAll, HasDiskCause, HasOpeningCause}
 use Rattle.volume_files.specs.Handed.{HasRefusalCause, IsSwapAsGiven, IsSwapFor, StopsAttaching, volume_numbers, sizes_of}
-use Rattle.stored_files.specs.Written.{HaveDisks, HaveFirstBlocks, HaveVolumeNames, LieWell, numbered_seen, paired_seen}
+use Rattle.stored_files.specs.Written.{HaveDisks, HaveFirstBlocks, HaveVolumeNames, LieWell, numbered_seen}
 use Rattle.volume_files.specs.Opened.{ComesTo, IsVolumeAttached, OpenedFile, volume_number, line_files_of, opened_files, infos_of, opened_bytes_at, table_on, volume_specs}
 
 -- The disks with their numbers, in rising number; the table of each; and the swap disk.

@@ -1,7 +1,7 @@
 -- The files as the processes find them, or the set-up rule that keeps them from being opened. Public clauses cite this.
-use Rattle.std.specs.Prelude.{ℕ, ◌==◌, ◌+◌, ◌-◌, nat_le, nat_lt, Bool, List, [], ◌∷◌, ◌++◌, length, take, drop, map, filter, filter_map, replicate}
+use Rattle.std.specs.Prelude.{ℕ, ◌==◌, ◌+◌, ◌-◌, nat_le, nat_lt, Bool, List, [], ◌∷◌, ◌++◌, length, drop, map, filter, filter_map, replicate}
 use Rattle.std.specs.Prelude.{is_some, true, false, slice_index_or, unwrap_or, Option, Some, None, option_map, option_and_then, IfSome, Result, Ok, Err, if◌then◌else◌, ◌≡◌, ◌≤◌}
-use Rattle.std.specs.List.{concat, find, flat_map, list_all, list_any, range_with_len}
+use Rattle.std.specs.List.{find, flat_map, list_all, list_any, range_with_len}
 use Rattle.std.specs.FinMap as finite
 use Rattle.std.specs.Map.{lookup}
 use Rattle.std.specs.Str.{bytes_eq}
@@ -17,7 +17,6 @@ use Rattle.volume_format.specs.vnode_files.declared.extent.Extent.{Extent}
 use Rattle.volume_format.specs.vnode_files.declared.extent.TheConstants.{MOST_EXTENTS}
 use Rattle.volume_format.specs.vnode_files.declared.vnode.FileInfo.{FileInfo}
 use Rattle.volume_format.specs.vnode_files.Grow.{is_free}
-use Rattle.volume_format.specs.vnode_files.Vnode.{page_blocks}
 use Rattle.volume_format.specs.declared.rules.BadVolume.{BadVolume}
 use Rattle.volume_format.specs.Rules.{reading}
 use Rattle.volume_format.specs.Table.{TableSeen}

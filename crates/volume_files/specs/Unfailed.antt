@@ -1,5 +1,5 @@
 -- What is said unless a device failed. Inside: no clause of `run` cites this.
-use Rattle.std.specs.Prelude.{ℕ, ◌≡◌, All, List, map, Result, Ok, Err}
+use Rattle.std.specs.Prelude.{ℕ, ◌≡◌, All, List, Result, Ok, Err}
 use Rattle.block_device.specs.DiskSeen.{DiskSeen, failures_told}
 use Rattle.volume_files.specs.declared.stops.OpenStop.{OpenStop}
 use Rattle.volume_files.specs.declared.stops.OpenStop.TheVariants as halt

@@ -1,13 +1,13 @@
 use Rattle.std.proofs.Common.{◌≡◌, Bool, false, ◌<◌, length, refl, ap, ◌∙◌, arith}
-use Rattle.fault_entry.specs.page_lock.Rows.{row_at, with_bits}
-use Rattle.fault_entry.specs.page_store.Steps.{with_row}
-use Rattle.fault_entry.proofs.seg_ops.Composed.{keeps-then}
-use Rattle.fault_entry.specs.vm_world.World.{world_seen}
-use Rattle.fault_entry.proofs.seg_ops.UsedPages.{clear-keeps}
-use Rattle.vm_core.proofs.Uses.{front-clears}
-use Rattle.vm_core.proofs.clock.clear_use.Given.{Over}
-use Rattle.vm_core.proofs.clock.clear_use.Goals.{After-set_bits}
-use Rattle.vm_core.proofs.clock.clear_use.Goals as goal
+use Rattle.seg_ops.specs.page_lock.Rows.{row_at, with_bits}
+use Rattle.seg_ops.specs.page_store.Steps.{with_row}
+use Rattle.seg_ops.proofs.Composed.{keeps-then}
+use Rattle.seg_ops.specs.vm_world.World.{world_seen}
+use Rattle.seg_ops.proofs.UsedPages.{clear-keeps}
+use Rattle.clock_hands.proofs.Uses.{front-clears}
+use Rattle.clock_hands.proofs.clock.clear_use.Given.{Over}
+use Rattle.clock_hands.proofs.clock.clear_use.Goals.{After-set_bits}
+use Rattle.clock_hands.proofs.clock.clear_use.Goals as goal
 
 -- the row is the one that was, without the reference bit
 stored : (g : Over) (c : After-set_bits g) → c.set_bits.new.self ≡ with_row c.gather_use.new.world.store c.args.frame

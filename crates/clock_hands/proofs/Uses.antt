@@ -1,25 +1,25 @@
 -- What the translations of a frame say of its use, and what a hand of the clock makes of it.
-use Rattle.fault_entry.proofs.hat_layer.FrameLemmas.{leads-true as leads-is}
-use Rattle.fault_entry.proofs.flat_model.Starts.{or_cases as either-is}
-use Rattle.fault_entry.proofs.flat_model.Ranges.{both_true as both}
+use Rattle.seg_ops.proofs.hat_layer.FrameLemmas.{leads-true as leads-is}
+use Rattle.seg_ops.proofs.flat_model.Starts.{or_cases as either-is}
+use Rattle.seg_ops.proofs.flat_model.Ranges.{both_true as both}
 use Rattle.std.proofs.Common.{◌≡◌, ◌≢◌, ℕ, zero, suc, ◌<◌, ◌==◌, ◌||◌, ◌&&◌, Bool, true, false, cond, List, [], ◌∷◌, length, Option, Some, None, refl, sym, ap, ◌∙◌, inl, inr, subst, get_or-set_same, get_or-set_other}
 use Rattle.std.specs.Prelude.{slice_index_or, option_map, IsSome}
 use Rattle.std.specs.List.{list_any}
 use Rattle.std.proofs.lemmas.Bool.{eq-eqb, eqb-true, or_left as or-left, or_right as or-right}
-use Rattle.fault_entry.specs.hat_layer.Pool.{HatSeen, frame_of, leads, has_bit, bits_of, change_lead, change_frame, with_clear_bits}
-use Rattle.fault_entry.specs.hat_layer.declared.translation.Translation.{Translation}
-use Rattle.fault_entry.specs.page_lock.Rows.{row_at, clear_row, with_bits}
-use Rattle.fault_entry.specs.page_lock.declared.Row.{Row}
-use Rattle.fault_entry.specs.page_store.Seen.{StoreSeen, IsListedFrame}
-use Rattle.fault_entry.specs.page_store.Steps.{with_row}
-use Rattle.fault_entry.specs.seg_ops.Steps.{with_bits_gathered}
-use Rattle.fault_entry.proofs.seg_ops.Places.{index-map}
-use Rattle.fault_entry.proofs.seg_ops.StillSteps.{with_tables, memory_of}
-use Rattle.fault_entry.specs.vm_world.MemoryFits.{MemoryFits}
-use Rattle.fault_entry.specs.vm_world.Segments.{Spaces}
-use Rattle.fault_entry.specs.vm_world.TranslationsFit.{HasWritten}
-use Rattle.fault_entry.specs.vm_world.World.{World}
-use Rattle.vm_core.specs.Clock.{SameButBits, KeepsButBits, TouchesFrame, SameModified, SameReferenced, FrontClears, GathersUse}
+use Rattle.seg_ops.specs.hat_layer.Pool.{HatSeen, frame_of, leads, has_bit, bits_of, change_lead, change_frame, with_clear_bits}
+use Rattle.seg_ops.specs.hat_layer.declared.translation.Translation.{Translation}
+use Rattle.seg_ops.specs.page_lock.Rows.{row_at, clear_row, with_bits}
+use Rattle.seg_ops.specs.page_lock.declared.Row.{Row}
+use Rattle.seg_ops.specs.page_store.Seen.{StoreSeen, IsListedFrame}
+use Rattle.seg_ops.specs.page_store.Steps.{with_row}
+use Rattle.seg_ops.specs.Steps.{with_bits_gathered}
+use Rattle.seg_ops.proofs.Places.{index-map}
+use Rattle.seg_ops.proofs.StillSteps.{with_tables, memory_of}
+use Rattle.seg_ops.specs.vm_world.MemoryFits.{MemoryFits}
+use Rattle.seg_ops.specs.vm_world.Segments.{Spaces}
+use Rattle.seg_ops.specs.vm_world.TranslationsFit.{HasWritten}
+use Rattle.seg_ops.specs.vm_world.World.{World}
+use Rattle.clock_hands.specs.Clock.{SameButBits, KeepsButBits, TouchesFrame, SameModified, SameReferenced, FrontClears, GathersUse}
 
 -- A BIT of the translations of a frame.
 record HasBit (bit : Translation → Bool) (places : List (Option Translation)) (frame : ℕ) : Type 0 where

@@ -1,7 +1,7 @@
-use Rattle.fault_entry.proofs.seg_ops.Composed.{keeps-then}
-use Rattle.fault_entry.specs.vm_world.World.{world_seen}
-use Rattle.vm_core.proofs.Looks.{hand-keeps}
-use Rattle.vm_core.proofs.clock.turn_hand.Goals as goal
+use Rattle.seg_ops.proofs.Composed.{keeps-then}
+use Rattle.seg_ops.specs.vm_world.World.{world_seen}
+use Rattle.clock_hands.proofs.Looks.{hand-keeps}
+use Rattle.clock_hands.proofs.clock.turn_hand.Goals as goal
 
 pub clear_use-requires-clause-fits : goal.clear_use-requires-clause-fits
 clear_use-requires-clause-fits g c =

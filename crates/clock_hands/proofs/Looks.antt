@@ -1,41 +1,41 @@
 -- The back hand, and the steps of the hands as steps of the world.
-use Rattle.fault_entry.proofs.seg_ops.Fills.{held-by as held-name}
+use Rattle.seg_ops.proofs.Fills.{held-by as held-name}
 use Rattle.std.proofs.Common.{◌≡◌, ◌≢◌, ℕ, ◌<◌, Bool, true, false, cond, List, [], ◌∷◌, ◌++◌, length, Option, Some, None, refl, sym, ap, ◌∙◌, inl, inr, subst}
 use Rattle.std.specs.Prelude.{◌↔◌, ◌⊎◌, is_none, is_some, slice_index_or, IsSome, IfSome}
 use Rattle.std.proofs.lemmas.Bool.{eq-eqb, eqb-true}
-use Rattle.fault_entry.specs.block_device.DiskSeen.{DiskSeen}
-use Rattle.fault_entry.specs.core_arena.Bytes.{bytes_at}
-use Rattle.fault_entry.specs.hat_layer.Pool.{frame_of, leads, drop_lead, drop_frame}
-use Rattle.fault_entry.specs.hat_layer.declared.translation.Translation.{Translation}
-use Rattle.fault_entry.specs.page_clock.Clock.{next_clock}
-use Rattle.fault_entry.specs.page_hash.Names.{find}
-use Rattle.fault_entry.specs.page_hash.declared.PageName.{PageName}
-use Rattle.fault_entry.specs.page_lock.Rows.{row_at}
-use Rattle.fault_entry.specs.page_lock.declared.Row.{Row}
-use Rattle.fault_entry.specs.page_store.Bays.{BaySeen, home, out, bay_at}
-use Rattle.fault_entry.specs.page_store.Laws.{StaysInPlace}
-use Rattle.fault_entry.specs.page_store.Moves.{is_only}
-use Rattle.fault_entry.specs.page_store.Seen.{StoreSeen, IsSoundStore, IsListedFrame, residence, residence_in, residence_of}
-use Rattle.fault_entry.specs.page_store.Table.{PlaceTable}
-use Rattle.fault_entry.specs.page_store.Waits.{Waits, holder_of, holder_in}
-use Rattle.fault_entry.specs.page_store.declared.plan.Hold.{Hold}
-use Rattle.fault_entry.specs.page_store.declared.plan.Hold.TheVariants as hold
-use Rattle.fault_entry.specs.page_store.declared.plan.Plan.{Plan}
-use Rattle.fault_entry.specs.page_store.declared.plan.Plan.TheVariants as plan
-use Rattle.fault_entry.specs.page_store.declared.residence.Residence.TheVariants.{Home}
-use Rattle.fault_entry.specs.seg_ops.Plans.{IsAsked}
-use Rattle.fault_entry.specs.vm_world.Words.{KeepsPages}
-use Rattle.fault_entry.specs.vm_world.declared.wants.Wants.{Wants}
-use Rattle.fault_entry.specs.vm_world.declared.wants.Wants.TheVariants.{Transfer, Seat}
-use Rattle.fault_entry.proofs.seg_ops.Places.{index-map}
-use Rattle.fault_entry.proofs.seg_ops.StillSteps.{with_tables, memory_of, same-row, step-keeps, translation-kept}
-use Rattle.fault_entry.specs.vm_world.MemoryFits.{MemoryFits}
-use Rattle.fault_entry.specs.vm_world.Plans.{CanRunPlan}
-use Rattle.fault_entry.specs.vm_world.Segments.{Spaces}
-use Rattle.fault_entry.specs.vm_world.TranslationsFit.{IsModified}
-use Rattle.fault_entry.specs.vm_world.World.{World, world_table, core_of}
-use Rattle.vm_core.specs.Clock.{IsReferenced, IsToPush, IsPushOf, SameButBits, KeepsButBits, TouchesFrame, BackLooks, GathersUse, plan_in}
-use Rattle.vm_core.proofs.Uses.{touches-none, touches-then}
+use Rattle.seg_ops.specs.block_device.DiskSeen.{DiskSeen}
+use Rattle.seg_ops.specs.core_arena.Bytes.{bytes_at}
+use Rattle.seg_ops.specs.hat_layer.Pool.{frame_of, leads, drop_lead, drop_frame}
+use Rattle.seg_ops.specs.hat_layer.declared.translation.Translation.{Translation}
+use Rattle.seg_ops.specs.page_clock.Clock.{next_clock}
+use Rattle.seg_ops.specs.page_hash.Names.{find}
+use Rattle.seg_ops.specs.page_hash.declared.PageName.{PageName}
+use Rattle.seg_ops.specs.page_lock.Rows.{row_at}
+use Rattle.seg_ops.specs.page_lock.declared.Row.{Row}
+use Rattle.seg_ops.specs.page_store.Bays.{BaySeen, home, out, bay_at}
+use Rattle.seg_ops.specs.page_store.Laws.{StaysInPlace}
+use Rattle.seg_ops.specs.page_store.Moves.{is_only}
+use Rattle.seg_ops.specs.page_store.Seen.{StoreSeen, IsSoundStore, IsListedFrame, residence, residence_in, residence_of}
+use Rattle.seg_ops.specs.page_store.Table.{PlaceTable}
+use Rattle.seg_ops.specs.page_store.Waits.{Waits, holder_of, holder_in}
+use Rattle.seg_ops.specs.page_store.declared.plan.Hold.{Hold}
+use Rattle.seg_ops.specs.page_store.declared.plan.Hold.TheVariants as hold
+use Rattle.seg_ops.specs.page_store.declared.plan.Plan.{Plan}
+use Rattle.seg_ops.specs.page_store.declared.plan.Plan.TheVariants as plan
+use Rattle.seg_ops.specs.page_store.declared.residence.Residence.TheVariants.{Home}
+use Rattle.seg_ops.specs.Plans.{IsAsked}
+use Rattle.seg_ops.specs.vm_world.Words.{KeepsPages}
+use Rattle.seg_ops.specs.vm_world.declared.wants.Wants.{Wants}
+use Rattle.seg_ops.specs.vm_world.declared.wants.Wants.TheVariants.{Transfer, Seat}
+use Rattle.seg_ops.proofs.Places.{index-map}
+use Rattle.seg_ops.proofs.StillSteps.{with_tables, memory_of, same-row, step-keeps, translation-kept}
+use Rattle.seg_ops.specs.vm_world.MemoryFits.{MemoryFits}
+use Rattle.seg_ops.specs.vm_world.Plans.{CanRunPlan}
+use Rattle.seg_ops.specs.vm_world.Segments.{Spaces}
+use Rattle.seg_ops.specs.vm_world.TranslationsFit.{IsModified}
+use Rattle.seg_ops.specs.vm_world.World.{World, world_table, core_of}
+use Rattle.clock_hands.specs.Clock.{IsReferenced, IsToPush, IsPushOf, SameButBits, KeepsButBits, TouchesFrame, BackLooks, GathersUse, plan_in}
+use Rattle.clock_hands.proofs.Uses.{touches-none, touches-then}
 
 -- A frame on a list has no modified page.
 listed-clean : (w : World) (spaces : Spaces) (frame : ℕ) → MemoryFits (memory_of w spaces) → IsListedFrame w.store frame → IsModified w.store w.hat.places frame → ⊥

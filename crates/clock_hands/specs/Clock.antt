@@ -1,25 +1,25 @@
 -- One move of a hand of the clock. Public clauses cite this.
 use Rattle.std.specs.Prelude.{◌≡◌, ◌≢◌, ◌↔◌, ◌⊎◌, ◌++◌, ◌∷◌, [], ℕ, true, false, List, Option, Some, None, IsSome, slice_index_or}
-use Rattle.fault_entry.specs.block_device.DiskSeen.{DiskSeen}
-use Rattle.fault_entry.specs.core_arena.Bytes.{bytes_at}
-use Rattle.fault_entry.specs.hat_layer.Pool.{frame_of}
-use Rattle.fault_entry.specs.hat_layer.declared.translation.Translation.{Translation}
-use Rattle.fault_entry.specs.page_clock.Clock.{next_pick, next_clock}
-use Rattle.fault_entry.specs.page_clock.declared.Pick.{Pick}
-use Rattle.fault_entry.specs.page_clock.declared.Pick.TheVariants.{Front, Back}
-use Rattle.fault_entry.specs.page_hash.declared.PageName.{PageName}
-use Rattle.fault_entry.specs.page_lock.Rows.{row_at}
-use Rattle.fault_entry.specs.page_lock.declared.Row.{Row}
-use Rattle.fault_entry.specs.page_store.Bays.{home, bay_at}
-use Rattle.fault_entry.specs.page_store.Seen.{StoreSeen, IsListedFrame, residence}
-use Rattle.fault_entry.specs.page_store.declared.plan.Plan.{Plan}
-use Rattle.fault_entry.specs.page_store.declared.plan.Plan.TheVariants as plan
-use Rattle.fault_entry.specs.page_store.declared.residence.Residence.TheVariants.{Home}
-use Rattle.fault_entry.specs.vm_world.declared.wants.Wants.{Wants}
-use Rattle.fault_entry.specs.vm_world.declared.wants.Wants.TheVariants.{Transfer, Seat}
-use Rattle.fault_entry.specs.vm_world.State.{KernelState, KeptPlan}
-use Rattle.fault_entry.specs.vm_world.TranslationsFit.{IsModified}
-use Rattle.fault_entry.specs.vm_world.World.{World, world_table}
+use Rattle.seg_ops.specs.block_device.DiskSeen.{DiskSeen}
+use Rattle.seg_ops.specs.core_arena.Bytes.{bytes_at}
+use Rattle.seg_ops.specs.hat_layer.Pool.{frame_of}
+use Rattle.seg_ops.specs.hat_layer.declared.translation.Translation.{Translation}
+use Rattle.seg_ops.specs.page_clock.Clock.{next_pick, next_clock}
+use Rattle.seg_ops.specs.page_clock.declared.Pick.{Pick}
+use Rattle.seg_ops.specs.page_clock.declared.Pick.TheVariants.{Front, Back}
+use Rattle.seg_ops.specs.page_hash.declared.PageName.{PageName}
+use Rattle.seg_ops.specs.page_lock.Rows.{row_at}
+use Rattle.seg_ops.specs.page_lock.declared.Row.{Row}
+use Rattle.seg_ops.specs.page_store.Bays.{home, bay_at}
+use Rattle.seg_ops.specs.page_store.Seen.{StoreSeen, IsListedFrame, residence}
+use Rattle.seg_ops.specs.page_store.declared.plan.Plan.{Plan}
+use Rattle.seg_ops.specs.page_store.declared.plan.Plan.TheVariants as plan
+use Rattle.seg_ops.specs.page_store.declared.residence.Residence.TheVariants.{Home}
+use Rattle.seg_ops.specs.vm_world.declared.wants.Wants.{Wants}
+use Rattle.seg_ops.specs.vm_world.declared.wants.Wants.TheVariants.{Transfer, Seat}
+use Rattle.seg_ops.specs.vm_world.State.{KernelState, KeptPlan}
+use Rattle.seg_ops.specs.vm_world.TranslationsFit.{IsModified}
+use Rattle.seg_ops.specs.vm_world.World.{World, world_table}
 
 -- A translation leads to the frame and says that it was used.
 pub record HasUsed (places : List (Option Translation)) (frame : ℕ) : Type 0 where
