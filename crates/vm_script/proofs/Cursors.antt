@@ -1,5 +1,5 @@
 -- A line's fields, one by one.
-use Rattle.std.proofs.Common.{◌≡◌, ℕ, ◌+◌, ◌==◌, Bool, true, false, ◌&&◌, List, [], ◌∷◌, ◌++◌, length, take, refl, sym, ap, ◌∙◌, arith, rules, tests}
+use Rattle.std.proofs.Common.{◌≡◌, ℕ, ◌+◌, ◌==◌, Bool, true, false, ◌&&◌, List, [], ◌∷◌, ◌++◌, length, take, drop, refl, sym, ap, ◌∙◌, arith, rules, tests}
 use Rattle.std.proofs.Common.{not, nat_eq, slice_index_or, zero, suc, ap₂, append_assoc}
 use Rattle.std.specs.Prelude.{◌≤◌, ◌<◌, filter}
 use Rattle.std.specs.List.{list_all, slice_split}
@@ -10,6 +10,12 @@ use Rattle.vm_script.specs.Cursor.{ends_field, first_line, after_line, after_spa
 pub after_both : (xs : List ℕ) → after_field (after_graphic xs) ≡ after_field xs
 after_both [] = refl
 after_both (b ∷ xs) = let ih = after_both xs in grind (rules, tests, arith, ih)
+
+-- a row of graphic bytes in front is passed
+pub graphic_row : (n : ℕ) (xs : List ℕ) → list_all is_graphic (take n xs) ≡ true → after_graphic (drop n xs) ≡ after_graphic xs
+graphic_row zero xs all = refl
+graphic_row (suc n) [] all = refl
+graphic_row (suc n) (b ∷ xs) all = let ih = graphic_row n xs in grind (rules, tests, arith, ih, all)
 
 pub length_field : (xs : List ℕ) → length (field_of xs) + length (after_field xs) ≡ length xs
 length_field [] = refl
