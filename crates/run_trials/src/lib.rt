@@ -1,47 +1,21 @@
-//! Trials of whole runs: scripts over memory forms, with a fault in each place, and what each run left. There is nothing here but tests.
+//! What the trials of whole runs share: a run over memory forms and what it left, scripts, blocks of volumes, and histories told anew.
 #![tactic(auto)]
 
-#[cfg(test)]
-mod alone_tests;
-#[cfg(test)]
-mod beside_tests;
-#[cfg(test)]
-mod block_tests;
-#[cfg(test)]
-mod case_tests;
-#[cfg(test)]
-mod cut_tests;
-#[cfg(test)]
-mod disk_tests;
-#[cfg(test)]
-mod fault_tests;
-#[cfg(test)]
-mod file_tests;
-#[cfg(test)]
-mod forest_tests;
-#[cfg(test)]
-mod gated_rack;
-#[cfg(test)]
-mod given_tests;
-#[cfg(test)]
-mod joined_tests;
-#[cfg(test)]
-mod kept_tests;
-#[cfg(test)]
-mod mapping_tests;
-#[cfg(test)]
-mod member_tests;
-#[cfg(test)]
-mod overlap_tests;
-#[cfg(test)]
-mod random_tests;
-#[cfg(test)]
+mod broken_scripts;
+mod first_path;
+mod replaying;
 mod retelling;
-#[cfg(test)]
-mod tree_tests;
-#[cfg(test)]
+mod script_texts;
 mod trial;
-#[cfg(test)]
-mod turn_tests;
-#[cfg(test)]
-mod word_tests;
+mod volume_blocks;
+
+pub use broken_scripts::{BROKEN, Broken, MORE};
+pub use first_path::{FIRST, REPORT, TRACE};
+pub use replaying::{acts, replays};
+pub use retelling::{Own, file_section, sections};
+pub use script_texts::{file_lines, many_files, script_of_file};
+pub use trial::{
+    Fails, Left, NEVER, NO_WORDS, run_failing, run_kept, run_over, run_threadless, run_trial,
+    run_untold, words_of,
+};
+pub use volume_blocks::{OLD_TABLE, TABLE, Word, blocks_of, put_words};

@@ -7,9 +7,9 @@ use vm_types::{Call, Entry, Errno, Reply, Signal, ends_call};
 
 /// A line of a script that makes a call, and the process whose line it is.
 #[derive(Clone, Copy)]
-pub(crate) struct Own {
-    pub(crate) process: u32,
-    pub(crate) line: u32,
+pub struct Own {
+    pub process: u32,
+    pub line: u32,
 }
 
 fn refusal(errno: Errno) -> &'static str {
@@ -179,7 +179,7 @@ fn section(
 }
 
 /// The sections of the processes from 1 on, up to this one.
-pub(crate) fn sections(
+pub fn sections(
     alloc: Global,
     processes: u32,
     lines: &[Own],
@@ -206,7 +206,7 @@ fn bytes_line(alloc: Global, offset: usize, bytes: &[u8]) -> Result<String, Allo
 }
 
 /// What is told of a file of this length, whose pages are these.
-pub(crate) fn file_section(
+pub fn file_section(
     alloc: Global,
     name: &str,
     length: usize,

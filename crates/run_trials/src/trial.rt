@@ -12,16 +12,16 @@ use vm_types::Entry;
 
 /// The call of each outside that fails; 0 stands for none.
 #[derive(Clone, Copy)]
-pub(crate) struct Fails {
-    pub(crate) source: u64,
-    pub(crate) sink: u64,
-    pub(crate) rack: u64,
-    pub(crate) disk_0: u64,
-    pub(crate) disk_1: u64,
-    pub(crate) swap: u64,
+pub struct Fails {
+    pub source: u64,
+    pub sink: u64,
+    pub rack: u64,
+    pub disk_0: u64,
+    pub disk_1: u64,
+    pub swap: u64,
 }
 
-pub(crate) const NEVER: Fails = Fails {
+pub const NEVER: Fails = Fails {
     source: 0,
     sink: 0,
     rack: 0,
@@ -33,19 +33,19 @@ pub(crate) const NEVER: Fails = Fails {
 /// What a run left: its status, the step of its fault, its text, its history, the blocks of the disks that came back, and how many
 /// transfers the first, the second and the swap disk were asked for, reads and writes.
 #[derive(Drop)]
-pub(crate) struct Left {
-    pub(crate) status: u8,
-    pub(crate) fault: &'static str,
-    pub(crate) text: Vec<u8>,
-    pub(crate) entries: Vec<Entry>,
-    pub(crate) disks: Vec<Vec<Block>>,
-    pub(crate) first: (u64, u64),
-    pub(crate) second: (u64, u64),
-    pub(crate) swap: (u64, u64),
+pub struct Left {
+    pub status: u8,
+    pub fault: &'static str,
+    pub text: Vec<u8>,
+    pub entries: Vec<Entry>,
+    pub disks: Vec<Vec<Block>>,
+    pub first: (u64, u64),
+    pub second: (u64, u64),
+    pub swap: (u64, u64),
 }
 
 /// The words of a command, which stand one a line.
-pub(crate) fn words_of(alloc: Global, lines: &str) -> Result<Vec<String>, AllocError> {
+pub fn words_of(alloc: Global, lines: &str) -> Result<Vec<String>, AllocError> {
     let mut words = Vec::new(alloc);
     for word in lines.lines() {
         words.push(String::from_str(alloc, word)?)?;
@@ -54,7 +54,7 @@ pub(crate) fn words_of(alloc: Global, lines: &str) -> Result<Vec<String>, AllocE
 }
 
 /// No word.
-pub(crate) const NO_WORDS: &str = "";
+pub const NO_WORDS: &str = "";
 
 fn step_of(fault: &Option<RunFault>) -> &'static str {
     match fault {
@@ -104,7 +104,7 @@ fn left_of(alloc: Global, outcome: Outcome<MemDisk>, text: Vec<u8>) -> Result<Le
 }
 
 /// The outcome of a run over this rack, and what it prints. The source gives 7 bytes a call, and the sink takes 5.
-pub(crate) fn run_over<R: Rack>(
+pub fn run_over<R: Rack>(
     rt: &(impl Threads + Wait + Sync),
     alloc: Global,
     words: &str,
@@ -121,7 +121,7 @@ pub(crate) fn run_over<R: Rack>(
 }
 
 /// What a run without threads tells over memory forms: its status and its text; None where the script needs threads.
-pub(crate) fn run_threadless(
+pub fn run_threadless(
     alloc: Global,
     words: &str,
     script: &[u8],
@@ -137,7 +137,7 @@ pub(crate) fn run_threadless(
 }
 
 /// Runs a script over memory forms, for these words.
-pub(crate) fn run_trial(
+pub fn run_trial(
     rt: &(impl Threads + Wait + Sync),
     alloc: Global,
     words: &str,
@@ -150,7 +150,7 @@ pub(crate) fn run_trial(
 }
 
 /// Runs a script over memory forms, for these words, with a disk of these blocks under the path v.
-pub(crate) fn run_kept(
+pub fn run_kept(
     rt: &(impl Threads + Wait + Sync),
     alloc: Global,
     words: &str,
@@ -181,7 +181,7 @@ fn calls_from(alloc: Global, first: u64) -> Result<Vec<u64>, AllocError>
 
 /// Runs a script over memory forms, with a disk of these blocks under the path v where there are any. The disks 0 and 1 fail at
 /// these calls and at each later one; 0 stands for none.
-pub(crate) fn run_failing(
+pub fn run_failing(
     rt: &(impl Threads + Wait + Sync),
     alloc: Global,
     script: &[u8],
@@ -228,7 +228,7 @@ impl<R: Rack + Drop> Rack for UntoldRack<R> {
 }
 
 /// Runs a script over memory forms that tell nothing: its status, and what it prints.
-pub(crate) fn run_untold(
+pub fn run_untold(
     rt: &(impl Threads + Wait + Sync),
     alloc: Global,
     script: &[u8],

@@ -1,0 +1,86 @@
+//! Whole runs whose transfers overlap: two that processes wait for, and one that a process waits for with a push of the pageout daemon.
+use crate::gated_rack::{Event, Gate, GatedDisk, GatedRack};
+use block_device::MemRack;
+use run_trials::{NEVER, NO_WORDS, run_over};
+use std::alloc::{AllocError, Global};
+use std::sync::Wait;
+use std::test::Fail;
+use std::thread::Threads;
+use vm_run::Outcome;
+
+// Each of two processes loads from a file on a disk of its own.
+const PAIR: &[u8] =
+    b"disk 0 blank 8\ndisk 1 blank 8\nfile a rw 0 1 41\nfile b rw 1 1 42\nprocess\nmap 0x2000 4096 r shared a 0\nload 0x2000 1\nend\nprocess\nmap 0x2000 4096 r shared b 0\nload 0x2000 1\nend\n";
+
+const PAIR_REPORT: &[u8] =
+    b"process 1\n6 map 0x00002000\n7 load 0x41\n8 exit ok\nprocess 2\n10 map 0x00002000\n11 load 0x42\n12 exit ok\nfile a 1\n00000000 41\nfile b 1\n00000000 42\n";
+
+// A process stores into a page that has to be pushed to swap, and loads from a file.
+const PUSHED: &[u8] =
+    b"frames 8\ndisk 0 blank 8\nfile a rw 0 1 41\nprocess\nmap 0x2000 4096 rw private zero 0\nstore 0x2000 1 7\nmap 0x4000 4096 r shared a 0\nload 0x4000 1\nend\n";
+
+const PUSHED_REPORT: &[u8] =
+    b"process 1\n5 map 0x00002000\n6 store ok\n7 map 0x00004000\n8 load 0x41\n9 exit ok\nfile a 1\n00000000 41\n";
+
+// Whether a transfer ended before what it waited for had begun.
+fn was_late(outcome: &Outcome<GatedDisk<'_>>) -> bool {
+    outcome.disks.iter().any(|disk| disk.was_late)
+}
+
+// How a run over a rack of these gates ended, whether a transfer of it was late, and what it printed. The other disk's number is given.
+fn run_gated(
+    rt: &(impl Threads + Wait + Sync),
+    alloc: Global,
+    words: &str,
+    script: &[u8],
+    gates: (Gate<'_>, u32, Gate<'_>),
+) -> Result<(u8, bool, Vec<u8>), AllocError> {
+    let (first, other, second) = gates;
+    let mut rack = GatedRack {
+        rack: MemRack::new(alloc, Vec::new(alloc), Vec::new(alloc)),
+        first,
+        other,
+        second,
+    };
+    let (outcome, text) = run_over(rt, alloc, words, script, &NEVER, &mut rack)?;
+    Ok((outcome.status, was_late(&outcome), text))
+}
+
+// Each disk's first read of its file waits for the other's.
+#[test]
+fn transfers_of_two_processes_overlap(rt: HostRuntime) -> Result<(), Fail> {
+    let (one, two) = (Event::new(), Event::new());
+    let first = Gate::Read {
+        begun: &one,
+        until: &two,
+    };
+    let second = Gate::Read {
+        begun: &two,
+        until: &one,
+    };
+    let (status, late, text) = run_gated(&rt, rt.alloc(), NO_WORDS, PAIR, (first, 1, second))?;
+    assert_eq!(rt; (status, late), (0, false));
+    assert_eq!(rt; text.as_slice(), PAIR_REPORT);
+    Ok(())
+}
+
+// The file disk's first read waits for a write to the swap disk.
+#[test]
+fn a_push_of_the_daemon_begins_during_a_read(rt: HostRuntime) -> Result<(), Fail> {
+    let (one, two) = (Event::new(), Event::new());
+    let first = Gate::Read {
+        begun: &one,
+        until: &two,
+    };
+    let second = Gate::Write { begun: &two };
+    let (status, late, text) = run_gated(
+        &rt,
+        rt.alloc(),
+        "--pageout\n1000000",
+        PUSHED,
+        (first, 8, second),
+    )?;
+    assert_eq!(rt; (status, late), (0, false));
+    assert_eq!(rt; text.as_slice(), PUSHED_REPORT);
+    Ok(())
+}
