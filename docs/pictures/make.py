@@ -225,7 +225,8 @@ SAYS = {
     'block_device': 'disks, streams', 'filled': 'equal items', 'hash_chains': 'chains', 'swap_slots': 'least free', 'flat_model': 'what it means',
     'flat_state': 'kept plainly', 'vnode_files': 'extents', 'vm_types': 'calls, replies', 'zero_objects': 'by number',
     'disk_marks': 'what blocks have', 'mark_laws': 'true marks',
-    'volume_files': 'mounted files', 'stored_files': 'shown, closed', 'command_line': 'words', 'vm_run': 'one run', 'joined_disk': 'two as one', 'volume_disks': 'one or two',
+    'volume_files': 'mounted files', 'stored_files': 'shown, closed', 'command_line': 'words', 'vm_run': 'one run', 'run_endings': 'ways to end', 'run_input': 'what is asked', 'run_report': 'tables, report',
+    'run_outcome': 'how it ended', 'run_kernel': 'start, close', 'plan_runs': 'lines made', 'run_opening': 'ready to run', 'joined_disk': 'two as one', 'volume_disks': 'one or two',
 }
 WIDE, HIGH, GAP, STEP = 116, 46, 12, 88
 # of the crates that sunvm's line names these are for its tests alone

@@ -12,25 +12,25 @@ use Rattle.volume_files.specs.vm_script.Told.{Told, ToldFront}
 use Rattle.volume_files.specs.vm_types.declared.call.Entry.{Entry}
 use Rattle.printed_traces.specs.Printed.{HasToldCounts}
 use Rattle.vm_core.specs.vm_world.State.{KernelState}
-use Rattle.vm_run.specs.declared.ending.Ending.{Ending}
-use Rattle.vm_run.specs.declared.ending.Ending.TheVariants as ending
-use Rattle.vm_run.specs.declared.outcome.RunFault.{RunFault}
-use Rattle.vm_run.specs.Asked.{Given, Asked}
+use Rattle.run_endings.specs.declared.ending.Ending.{Ending}
+use Rattle.run_endings.specs.declared.ending.Ending.TheVariants as ending
+use Rattle.run_endings.specs.declared.fault.RunFault.{RunFault}
+use Rattle.run_input.specs.Asked.{Given, Asked}
 use Rattle.volume_files.specs.Attached.{AttachedSeen, bare_disks}
 use Rattle.volume_files.specs.stored_files.Closed.{SayTables, SaysTable}
-use Rattle.vm_run.specs.Course.{IsReady, CloseEnds, CloseFails, ShowEnds, LacksTable}
-use Rattle.vm_run.specs.Ended.{HasLateCause}
+use Rattle.run_opening.specs.Ready.{IsReady}
+use Rattle.run_report.specs.ReportEnds.{CloseEnds, CloseFails, ShowEnds, LacksTable}
+use Rattle.run_outcome.specs.Ended.{HasLateCause}
 use Rattle.volume_files.specs.Opened.{OpenedFile, infos_of, opening_flat}
-use Rattle.vm_run.specs.Played.{IsStarted, KernelLeaves, LeftSeen, IsClosingFault}
-use Rattle.volume_files.specs.stored_files.Written.{infos_made}
-use Rattle.vm_run.specs.Run.{CaseOf, Course, Outside, WasShown, Lacks, RunsThrough, WroteNoTable, WroteTablesBelow, middle_of, opening_of, opening_part, plan_opened, wrote_before}
+use Rattle.run_kernel.specs.Played.{IsStarted, KernelLeaves, LeftSeen, IsClosingFault}
+use Rattle.volume_files.specs.stored_files.Written.{infos_made, AreFilesBytes, AreOnlyRead, FaultCounts, HaveDisks, IsCountedSince, KeepsBlocks, OnlyReads, WriteTables, WroteTablesTo, disk_fault_counts, disk_sizes}
+use Rattle.run_outcome.specs.Run.{CaseOf, Course, Outside, WasShown, Lacks, RunsThrough, WroteNoTable, WroteTablesBelow, middle_of, opening_of, opening_part, plan_opened, wrote_before}
 use Rattle.volume_files.specs.stored_files.Texts.{Wrote, WroteAndFront, WroteAndPart, WroteFront, WroteOn, WrotePart}
-use Rattle.vm_run.specs.AskedTexts.{middle_text, trace_opening}
-use Rattle.volume_files.specs.stored_files.Written.{AreFilesBytes, AreOnlyRead, FaultCounts, HaveDisks, IsCountedSince, KeepsBlocks, OnlyReads, WriteTables, WroteTablesTo, disk_fault_counts, disk_sizes}
+use Rattle.run_report.specs.AskedTexts.{middle_text, trace_opening}
 use Rattle.volume_files.proofs.DiskLists.{at-map, mate, have-written, writes-refl}
 use Rattle.volume_files.proofs.stored_files.WrittenTexts.{appended_nothing, risen_since, wrote_then}
-use Rattle.vm_run.proofs.Sinks.{front_behind, on_behind, part_behind, still_wrote}
-use Rattle.vm_run.proofs.Courses.{all-tables, ended, begun, closes, closed-bytes, late-cause, no-table, numbers-new, sizes-same, some-tables, tables-below}
+use Rattle.run_outcome.proofs.Sinks.{front_behind, on_behind, part_behind, still_wrote}
+use Rattle.run_opening.proofs.Courses.{all-tables, ended, begun, closes, closed-bytes, late-cause, no-table, numbers-new, sizes-same, some-tables, tables-below}
 
 -- disks that are only read after their tables were written
 blocks-read : (d e f : DiskSeen) → KeepsBlocks d e → OnlyReads e f → KeepsBlocks d f
@@ -90,7 +90,7 @@ module _ (st : ℕ) (ft : Option RunFault) (g : Given) (o : Outside) (what : Ask
   course shown = record { what = what; files = files; bytes = bytes; infos = infos; shown = shown }
 
   module _ (new : List (ℕ × DiskSeen)) (w : WriteTables l.disks new) where
-    abbrev e : Rattle.vm_run.specs.Ended.End
+    abbrev e : Rattle.run_outcome.specs.Ended.End
     e = ended st ft g what files bytes a made plan o.sink_old k1 ready s l started left new w
 
     have : HaveDisks l.files new

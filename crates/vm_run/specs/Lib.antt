@@ -1,15 +1,1 @@
-pub mod Ending
-pub mod Asked
-pub mod TraceChecks
-pub mod OnDisks
-pub mod Run
-pub mod Members
-pub mod MemberRooms
-pub mod Played
 pub mod Course
-pub mod Reading
-pub mod Alone
-pub mod Lines
-pub mod Transfers
-pub mod Ended
-pub mod AskedTexts

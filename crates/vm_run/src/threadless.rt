@@ -3,23 +3,20 @@ ghost use Rattle.std.specs.Prelude.{◌≡◌, IfErr, IfOk, Ok, false, true, map
 ghost use Rattle.volume_files.specs.block_device.StreamSeen.{SourceSeen};
 ghost use Rattle.volume_files.specs.joined_disk.JoinedSeen.{joined_seen};
 ghost use Rattle.volume_files.specs.volume_disks.Singles.{single_seen};
-ghost use Rattle.vm_run.specs.Alone as alone;
-ghost use Rattle.vm_run.specs.Asked.{Given, WasAsked, given_of};
-ghost use Rattle.vm_run.specs.Course.{HasStopped, MayBeRun};
-ghost use Rattle.vm_run.specs.Ended.{end_of};
-ghost use Rattle.vm_run.specs.Members.{WasRun};
-ghost use Rattle.vm_run.specs.Run.{outside_of};
+ghost use Rattle.run_input.specs.Alone as alone;
+ghost use Rattle.run_input.specs.Asked.{Given, WasAsked, given_of};
+ghost use Rattle.run_outcome.specs.Stopped.{HasStopped};
+ghost use Rattle.run_input.specs.Reading.{MayBeRun};
+ghost use Rattle.run_outcome.specs.Ended.{end_of};
+ghost use Rattle.run_outcome.specs.Members.{WasRun};
+ghost use Rattle.run_outcome.specs.Run.{outside_of};
 
 use crate::beginning::{Begun, begin_plan, finish_run};
-use crate::checking::tell_answer;
-use crate::concluding::conclude;
-use crate::ending::{Ending, Stop};
-use crate::members::{hand_members, take_rooms};
-use crate::outcome::Outcome;
-use crate::playing::play_alone;
-use crate::reading::{Request, ask, needs_no_thread};
-use crate::ready::bare_stop;
 use command_line::Options;
+use plan_runs::play_alone;
+use run_endings::Ending;
+use run_input::{Request, ask, needs_no_thread, tell_answer};
+use run_outcome::{Outcome, Stop, bare_stop, conclude, hand_members, take_rooms};
 use std::alloc::Global;
 use std::marker::Model;
 use trace_check::one_answer_law;
@@ -33,8 +30,8 @@ pub struct ReadScript {
 }
 
 impl Model for ReadScript {
-    ghost use Rattle.vm_run.specs.Asked.{Asked};
-    ghost use Rattle.vm_run.specs.Course.{MayBeRun};
+    ghost use Rattle.run_input.specs.Asked.{Asked};
+    ghost use Rattle.run_input.specs.Reading.{MayBeRun};
 
     ghost Value = { Asked };
 

@@ -4,9 +4,10 @@ use Rattle.std.proofs.lemmas.List.{length-map}
 use Rattle.volume_files.specs.joined_disk.JoinedSeen.{joined_seen}
 use Rattle.volume_files.specs.Attached.{ArePlaced, attached_seen}
 use Rattle.volume_files.specs.Handed.{members_of, swap_members}
-use Rattle.vm_run.specs.Course.{IsReady}
+use Rattle.run_opening.specs.Ready.{IsReady}
 use Rattle.volume_files.specs.volume_disks.Singles.{single_seen}
-use Rattle.vm_run.proofs.RunReady.{placed-as, start-lacks}
+use Rattle.run_opening.proofs.ReadyPlans.{placed-as}
+use Rattle.vm_run.proofs.RunReady.{start-lacks}
 use Rattle.vm_run.proofs.beginning.begin_plan.Given.{Over}
 use Rattle.vm_run.proofs.beginning.begin_plan.Goals as goal
 use Rattle.vm_run.proofs.beginning.begin_plan.Goals.{In-Ok}

@@ -7,14 +7,14 @@ use Rattle.volume_files.specs.vm_types.declared.call.Entry.{Entry}
 use Rattle.printed_traces.specs.Printed.{HasToldCounts}
 use Rattle.volume_files.specs.Handed.{kinds_of}
 use Rattle.volume_files.proofs.DiskCounts.{members-kinds}
-use Rattle.vm_run.specs.Course.{IsReady}
-use Rattle.vm_run.specs.Played.{KernelLeaves, left_seen}
+use Rattle.run_opening.specs.Ready.{IsReady}
+use Rattle.run_kernel.specs.Played.{KernelLeaves, left_seen}
 use Rattle.volume_files.specs.Opened.{opening_flat}
 use Rattle.volume_files.specs.stored_files.Written.{disk_sizes}
-use Rattle.vm_run.proofs.Plays.{played-still}
-use Rattle.vm_run.proofs.Returned.{swap-still}
+use Rattle.run_kernel.proofs.Leaves.{played-still}
+use Rattle.run_kernel.proofs.Returned.{swap-still}
 use Rattle.vm_run.proofs.RunReady.{first-left, names-left, ready-ends}
-use Rattle.vm_run.proofs.StartRules.{right-amounts}
+use Rattle.run_kernel.proofs.StartRules.{right-amounts}
 use Rattle.vm_run.proofs.beginning.finish_run.Given.{Over}
 use Rattle.vm_run.proofs.beginning.finish_run.Goals as goal
 use Rattle.vm_run.proofs.beginning.finish_run.Goals.{After-end_run-arg-1}

@@ -2,7 +2,7 @@ use Rattle.std.proofs.Common.{arith, refl, rules}
 use Rattle.std.proofs.lemmas.Grind.{common_steps}
 use Rattle.vm_core.specs.page_store.Bays.{pairs_seen}
 use Rattle.volume_files.proofs.DiskLists.{writes-refl}
-use Rattle.vm_run.proofs.Endings.{lacks-closed, no-tables, tables-to}
+use Rattle.run_report.proofs.Endings.{lacks-closed, no-tables, tables-to}
 use Rattle.volume_files.proofs.stored_files.WrittenTexts.{wrote_nothing}
 use Rattle.vm_run.proofs.ending_files.close.Goals as goal
 

@@ -4,7 +4,7 @@ use Rattle.vm_core.specs.page_store.Bays.{pairs_seen}
 use Rattle.volume_files.proofs.DiskLists.{seen-bare_disks}
 use Rattle.volume_files.specs.Handed.{members_of, swap_members}
 use Rattle.volume_files.proofs.DiskCounts.{members-kinds}
-use Rattle.vm_run.proofs.Endings.{close-kinds}
+use Rattle.run_report.proofs.Endings.{close-kinds}
 use Rattle.vm_run.proofs.ending_files.end_run.Goals as goal
 
 pub returns-clause-ends : goal.returns-clause-ends

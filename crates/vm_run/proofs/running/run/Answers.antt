@@ -2,10 +2,10 @@ use Rattle.std.proofs.Common.{ap, map, subst, sym}
 use Rattle.std.specs.Prelude.{string_bytes}
 use Rattle.volume_files.specs.block_device.RackSeen.{RackSeen}
 use Rattle.volume_files.specs.block_device.StreamSeen.{SinkSeen}
-use Rattle.vm_run.specs.Asked.{given_of}
-use Rattle.vm_run.specs.Ended.{end_of}
-use Rattle.vm_run.specs.Members.{WasRun}
-use Rattle.vm_run.specs.Run.{outside_of}
+use Rattle.run_input.specs.Asked.{given_of}
+use Rattle.run_outcome.specs.Ended.{end_of}
+use Rattle.run_outcome.specs.Members.{WasRun}
+use Rattle.run_outcome.specs.Run.{outside_of}
 use Rattle.vm_run.proofs.running.run.Goals as goal
 
 -- on threads: nothing but the source was called before

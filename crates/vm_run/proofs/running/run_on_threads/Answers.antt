@@ -3,18 +3,18 @@ use Rattle.std.specs.Prelude.{None, Ok, option_map}
 use Rattle.volume_files.specs.block_device.StreamSeen.{SourceSeen}
 use Rattle.volume_files.specs.joined_disk.JoinedSeen.{joined_seen}
 use Rattle.volume_files.specs.Numbers.{disk_numbers}
-use Rattle.vm_run.specs.Asked.{Asked, WasAsked}
-use Rattle.vm_run.specs.Course.{HasStopped, with_sink}
-use Rattle.vm_run.specs.Ended.{end_of}
-use Rattle.vm_run.specs.Members.{with_text}
-use Rattle.vm_run.specs.Run.{outside_of}
-use Rattle.vm_run.specs.declared.ending.Ending.TheVariants.{Memory}
+use Rattle.run_input.specs.Asked.{Asked, WasAsked}
+use Rattle.run_outcome.specs.Stopped.{HasStopped, with_sink}
+use Rattle.run_outcome.specs.Ended.{end_of}
+use Rattle.run_outcome.specs.Members.{with_text}
+use Rattle.run_outcome.specs.Run.{outside_of}
+use Rattle.run_endings.specs.declared.ending.Ending.TheVariants.{Memory}
 use Rattle.volume_files.specs.volume_disks.Singles.{single_seen}
-use Rattle.vm_run.proofs.CameBack.{few-outcome}
-use Rattle.vm_run.proofs.EarlyEnds.{bare-back, stopped-asking}
-use Rattle.vm_run.proofs.PrintedTraces.{prints-trace}
-use Rattle.vm_run.proofs.RunsHanded.{hands-none, was-run}
-use Rattle.vm_run.proofs.TextsTold.{asked-told, one-asked-told}
+use Rattle.run_outcome.proofs.CameBack.{few-outcome}
+use Rattle.run_outcome.proofs.EarlyEnds.{bare-back, stopped-asking}
+use Rattle.run_outcome.proofs.PrintedTraces.{prints-trace}
+use Rattle.run_outcome.proofs.RunsHanded.{hands-none, was-run}
+use Rattle.run_outcome.proofs.TextsTold.{asked-told, one-asked-told}
 use Rattle.vm_run.proofs.running.run_on_threads.Goals as goal
 
 pub hand_members-requires-clause-few : goal.hand_members-requires-clause-few

@@ -2,18 +2,18 @@ use Rattle.std.proofs.Common.{◌∙◌, ap, arith, map, refl, sym}
 use Rattle.std.specs.Prelude.{option_map, string_bytes}
 use Rattle.std.specs.Prelude.{◌==◌}
 use Rattle.std.proofs.lemmas.Bool.{and_parts}
-use Rattle.vm_run.specs.Alone.{is_alone}
-use Rattle.vm_run.specs.Asked.{given_of}
-use Rattle.vm_run.specs.Course.{HasStopped, with_sink}
-use Rattle.vm_run.specs.Ended.{end_of}
-use Rattle.vm_run.specs.Members.{with_text}
-use Rattle.vm_run.specs.Run.{outside_of}
-use Rattle.vm_run.specs.declared.reading.Request.{Request}
-use Rattle.vm_run.proofs.EarlyEnds.{bare-back, stopped-asking, stopped-checking}
-use Rattle.vm_run.proofs.PrintedTraces.{prints-trace}
-use Rattle.vm_run.proofs.RunsHanded.{hands-none, was-run}
-use Rattle.vm_run.proofs.TextsTold.{checked-told, stops-told}
-use Rattle.vm_run.proofs.Unfailing.{where-read}
+use Rattle.run_input.specs.Alone.{is_alone}
+use Rattle.run_input.specs.Asked.{given_of}
+use Rattle.run_outcome.specs.Stopped.{HasStopped, with_sink}
+use Rattle.run_outcome.specs.Ended.{end_of}
+use Rattle.run_outcome.specs.Members.{with_text}
+use Rattle.run_outcome.specs.Run.{outside_of}
+use Rattle.run_input.specs.declared.reading.Request.{Request}
+use Rattle.run_outcome.proofs.EarlyEnds.{bare-back, stopped-asking, stopped-checking}
+use Rattle.run_outcome.proofs.PrintedTraces.{prints-trace}
+use Rattle.run_outcome.proofs.RunsHanded.{hands-none, was-run}
+use Rattle.run_outcome.proofs.TextsTold.{checked-told, stops-told}
+use Rattle.run_input.proofs.Unread.{where-read}
 use Rattle.vm_run.proofs.threadless.run_alone.Goals as goal
 
 pub run_whole-requires-clause-may : goal.run_whole-requires-clause-may

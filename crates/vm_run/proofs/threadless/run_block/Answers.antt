@@ -1,8 +1,8 @@
 use Rattle.std.proofs.Common.{◌∙◌, ap, refl, sym}
 use Rattle.volume_files.specs.Opened.{names_of, opening_flat}
 use Rattle.volume_files.specs.stored_files.Written.{disk_sizes}
-use Rattle.vm_run.specs.Alone.{is_alone}
-use Rattle.vm_run.proofs.PlayablePlans.{alone-named}
+use Rattle.run_input.specs.Alone.{is_alone}
+use Rattle.run_input.proofs.PlayablePlans.{alone-named}
 use Rattle.vm_run.proofs.threadless.run_block.Goals as goal
 
 pub play_alone-state-requires-clause-alone : goal.play_alone-state-requires-clause-alone

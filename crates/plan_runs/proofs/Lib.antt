@@ -1,0 +1,12 @@
+pub mod GoingOn
+pub mod BlockLines
+pub mod ToldLines
+pub mod Trips
+pub mod Alone
+pub mod Plays
+pub mod Attempts
+pub mod Rounds
+pub mod FitLines
+pub mod Histories
+pub mod CallerRooms
+pub mod KernelRows

@@ -1,0 +1,4 @@
+pub mod Asked
+pub mod TraceChecks
+pub mod Reading
+pub mod Alone

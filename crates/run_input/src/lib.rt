@@ -1,0 +1,8 @@
+//! What a run is asked: its words, and the script or the trace that they name, are read.
+#![tactic(auto)]
+
+mod checking;
+mod reading;
+
+pub use checking::tell_answer;
+pub use reading::{Request, ask, needs_no_thread};

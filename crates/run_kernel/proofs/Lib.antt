@@ -1,0 +1,14 @@
+pub mod OpeningFlat
+pub mod Returned
+pub mod FileRecords
+pub mod FileBytesLeft
+pub mod EntryRooms
+pub mod OpenedPages
+pub mod StartedFlat
+pub mod StartRules
+pub mod Starts
+pub mod StartedFiles
+pub mod Fronts
+pub mod BlocksLeft
+pub mod UnkeptLeft
+pub mod Leaves

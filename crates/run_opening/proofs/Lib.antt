@@ -1,0 +1,9 @@
+pub mod KeptBytes
+pub mod Courses
+pub mod Traced
+pub mod SparedLines
+pub mod KeptUnkept
+pub mod RisingNumbers
+pub mod KeptFronts
+pub mod Unopened
+pub mod ReadyPlans

@@ -1,0 +1,9 @@
+pub mod Sinks
+pub mod LastLines
+pub mod Completes
+pub mod EarlyEnds
+pub mod PrintedTraces
+pub mod MemberLists
+pub mod CameBack
+pub mod TextsTold
+pub mod RunsHanded

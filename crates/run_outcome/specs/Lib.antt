@@ -1,0 +1,6 @@
+pub mod OnDisks
+pub mod Run
+pub mod Members
+pub mod MemberRooms
+pub mod Ended
+pub mod Stopped

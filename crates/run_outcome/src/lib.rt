@@ -1,0 +1,14 @@
+//! How a run ended, case by case, and what is handed back.
+#![tactic(auto)]
+
+mod concluding;
+mod members;
+mod numbers;
+mod outcome;
+mod stop;
+
+pub use concluding::conclude;
+pub use members::{hand_members, take_rooms};
+pub use numbers::without_numbers;
+pub use outcome::Outcome;
+pub use stop::{Stop, bare_stop, stop_unopened};

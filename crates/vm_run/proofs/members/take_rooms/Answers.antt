@@ -1,6 +1,0 @@
-use Rattle.std.proofs.Common.{◌∙◌, ap}
-use Rattle.volume_files.specs.Numbers.{disk_numbers}
-use Rattle.vm_run.proofs.members.take_rooms.Goals as goal
-
-pub returns-clause-numbers : goal.returns-clause-numbers
-returns-clause-numbers g c = c.in_ok-disk_numbers.ensures ∙ ap disk_numbers c.setup.ensures

@@ -1,9 +1,0 @@
-use Rattle.std.proofs.Common.{◌≡◌, ◌≤◌, length, map, ℕ}
-use Rattle.std.specs.Prelude.{vec_capacity}
-use Rattle.vm_run.proofs.starting.without_numbers.Given as goal
-
-abbrev pub invariant-loop-disk : goal.invariant-loop-disk
-invariant-loop-disk g l = record {
-  made : l.back.items ≡ map (λ (d : ℕ × _). d.1) l.yielded;
-  room : length l.fn.disks.items ≤ vec_capacity l.back;
-}
