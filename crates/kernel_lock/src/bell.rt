@@ -1,24 +1,23 @@
 //! A count that only rises, and those who sleep until it has risen. Nothing is promised of either.
-use crossbeam_utils::Backoff;
-use crossbeam_utils::sync::EventCount;
+//!
+//! A ring wakes one of the sleepers, and none while a wake-up is on its way: so whoever rings runs on, and rings many times without a call of
+//! the system, while the one that it woke comes up. docs/DECISIONS.md says why nobody sleeps for good.
 use std::sync::Wait;
 use std::sync::atomic::AtomicU64;
 use std::sync::atomic::Ordering::SeqCst;
 
-// As many as a `Backoff` takes until it is completed.
-const LOOKS: u32 = 11;
-
 #[derive(Drop)]
 pub(crate) struct Bell {
     rings: AtomicU64,
-    sleepers: EventCount,
+    // 1 where somebody may sleep and no wake-up is on its way, and else 0. Sleepers sleep on it while it is 1.
+    asleep: AtomicU64,
 }
 
 impl Bell {
     pub(crate) fn new() -> Bell {
         Bell {
             rings: AtomicU64::new(0),
-            sleepers: EventCount::new(),
+            asleep: AtomicU64::new(0),
         }
     }
 
@@ -27,28 +26,28 @@ impl Bell {
         self.rings.load(SeqCst)
     }
 
-    /// Rings once more, and wakes whoever rests.
+    /// Rings once more, and wakes one of those who sleep.
     pub(crate) fn ring(&self) {
         self.rings.fetch_add(1, SeqCst);
-        self.sleepers.notify_all();
+        self.wake_one();
     }
 
-    /// Waits until it rang more often than `seen` times, or answers earlier. It looks some times, ever more seldom, and then sleeps.
-    pub(crate) fn rest<R: Wait>(&self, rt: &R, seen: u64) {
-        let backoff = Backoff::new();
-        for _ in 0..LOOKS {
-            if self.rings() != seen {
-                return;
-            }
-            backoff.snooze();
+    /// Wakes one of those who sleep, where no wake-up is on its way.
+    pub(crate) fn wake_one(&self) {
+        if self.asleep.load(SeqCst) != 0 && self.asleep.swap(0, SeqCst) != 0 {
+            self.asleep.wake_one();
         }
-        self.sleep(rt, seen);
     }
 
-    fn sleep<R: Wait>(&self, rt: &R, seen: u64) {
-        let key = self.sleepers.prepare_wait();
+    /// Sleeps until it rang more often than `seen` times, or answers earlier. Whoever wakes says that others may sleep still.
+    pub(crate) fn rest<R: Wait>(&self, rt: &R, seen: u64) {
+        if self.rings() != seen {
+            return;
+        }
+        self.asleep.store(1, SeqCst);
         if self.rings() == seen {
-            key.wait(rt);
+            self.asleep.park(rt, 1);
+            self.asleep.store(1, SeqCst);
         }
     }
 }

@@ -111,7 +111,7 @@ impl<S: Guarded> KernelLock<S> {
     }
 
     /// Gives the state back, changed by a move that the guarded state allows, and goes outside with what `held` means as the seat's note.
-    /// It wakes whoever rests, takes no memory and waits for nobody.
+    /// It wakes one of those who rest, takes no memory and waits for nobody.
     pub fn leave(&self, seat: &mut Seat<S>, state: S, held: &S::Held)
         requires seat { IsSeatOf self.now seat.old }
         requires inside { seat.old.inside ≡ true }
@@ -152,8 +152,8 @@ impl<S: Guarded> KernelLock<S> {
         self.leaves.rings()
     }
 
-    /// Waits until `leaves` differs from `seen`, or answers earlier. Since a state is mostly back soon, it looks some times
-    /// before it sleeps. Nothing is promised of it.
+    /// Sleeps until `leaves` differs from `seen`, or answers earlier. A leave wakes one of those who sleep, so whoever rests tries again
+    /// until it goes in. Nothing is promised of it.
     pub fn rest<R: Wait>(&self, rt: &R, seen: u64) {
         self.leaves.rest(rt, seen);
     }
@@ -163,13 +163,19 @@ impl<S: Guarded> KernelLock<S> {
         self.changes.rings()
     }
 
-    /// Wakes whoever rests on a change. A caller tells where its leave may let somebody go on who waits
+    /// Wakes one of those who rest on a change. A caller tells where its leave may let somebody go on who waits
     /// for something behind the lock, and not for the lock itself.
     pub fn tell(&self) {
         self.changes.ring();
     }
 
-    /// Sleeps until `changes` differs from `seen`, or answers earlier. Nothing is promised of it.
+    /// Wakes one of those who rest on a change, as `tell` does, where nothing has changed: for whoever rested, and ends without a `tell`.
+    pub fn pass_on(&self) {
+        self.changes.wake_one();
+    }
+
+    /// Sleeps until `changes` differs from `seen`, or answers earlier. A `tell` wakes one of those who sleep, so whoever rested tells or
+    /// passes on by and by, or rests again where somebody else holds it up, who will tell. Nothing is promised of it.
     pub fn rest_on_change<R: Wait>(&self, rt: &R, seen: u64) {
         self.changes.rest(rt, seen);
     }

@@ -144,7 +144,7 @@ impl<D: Disk> VmKernel<D> {
         self.call_by_turns(rt, caller, call)
     }
 
-    // One try, where the call is a load or a store and nothing is in hand.
+    // One try, behind a turn, where the call is a load or a store and nothing is in hand.
     #[inline(always)]
     fn access(&self, caller: &mut Caller<D>, call: &Call) -> Quick
         requires caller { IsCallerOf self.now caller.old }
@@ -157,16 +157,27 @@ impl<D: Disk> VmKernel<D> {
     {
         if let Call::Load { .. } | Call::Store { .. } = *call {
             if caller.sent.is_none() {
-                return access_at(
+                let quick = access_at(
                     &self.lock,
                     &mut caller.seat,
                     caller.process,
                     &mut caller.sent,
                     call,
                 );
+                self.pass_on(quick);
+                return quick;
             }
         }
         self.untried(caller, call)
+    }
+
+    // A load or a store that is done so tells nobody: it passes on the wake-up that its call may have come by.
+    #[inline(always)]
+    fn pass_on(&self, quick: Quick) {
+        match quick {
+            Quick::Word(_) | Quick::Stored | Quick::Signal(_) => self.lock.pass_on(),
+            Quick::Later => {}
+        }
     }
 
     // The same, but that a hit is looked for first. Each kind has an arm, so that a hit's code looks at it once.

@@ -18,10 +18,11 @@ use kernel_lock::seat::Seat;
 use std::alloc::AllocError;
 use vm_core::{Answer, Call, Disk, Reply};
 
-// A call that is done may let go on who waits for it.
+// A call that is over may let go on who waits for it.
 fn tell_of<D: Disk>(lock: &KernelLock<BoxedState<D>>, tried: &Result<Tried, AllocError>) {
-    if let Ok(Tried::Done(_)) = tried {
-        lock.tell();
+    match tried {
+        Ok(Tried::Done(_)) | Err(_) => lock.tell(),
+        Ok(Tried::Out) | Ok(Tried::Busy(_)) => {}
     }
 }
 
