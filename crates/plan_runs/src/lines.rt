@@ -1,5 +1,5 @@
 //! The lines of a plan of one block, made on the kernel itself.
-ghost use Rattle.std.specs.Prelude.{◌≡◌, ◌⊎◌, [], List, All, OnOk, OnErr, length};
+ghost use Rattle.std.specs.Prelude.{◌≡◌, ◌⊎◌, [], ◌∷◌, List, All, OnOk, OnErr, length};
 ghost use mathlib.Core.List.{IsPrefix};
 ghost use Rattle.volume_files.specs.flat_model.Told.{entries_of};
 ghost use Rattle.volume_files.specs.vm_script.declared.plan.PlanLine.{PlanLine};

@@ -1,5 +1,5 @@
 //! One call of the one process, made on the kernel with the transfers that it needs.
-ghost use Rattle.std.specs.Prelude.{◌≡◌, ℕ, length, Some, None, option_map, IfOk, OnErr};
+ghost use Rattle.std.specs.Prelude.{◌≡◌, ◌<◌, ℕ, length, Some, None, option_map, IfOk, OnErr};
 ghost use Rattle.vm_core.specs.fault_entry.Accesses.{IsAccess};
 ghost use Rattle.vm_core.specs.kernel_close.Finish.{FitsStill};
 ghost use Rattle.vm_core.specs.Fits.{FitsAt};

@@ -6,8 +6,8 @@ ghost use Rattle.run_endings.specs.LastLine.{IsConcluded};
 use crate::ending::Ending;
 use std::alloc::{AllocError, Global};
 use volume_files::{
-    OpenFault, Refusal, Sink, disk_fault, rack_fault, read_fault, script_fault, setup_fault, usage,
-    volume_fault, write_all,
+    DiskFault, OpenFault, Refusal, Sink, disk_fault, rack_fault, read_fault, script_fault,
+    setup_fault, usage, volume_fault, write_all,
 };
 
 fn push_refusal(refusal: Refusal, text: &mut Vec<u8>) -> Result<(), AllocError>

@@ -1,5 +1,5 @@
 //! A trace is read and checked in place of a script, and its verdict is told.
-ghost use Rattle.std.specs.Prelude.{◌≡◌, ◌≤◌, IfErr, IfOk, string_bytes};
+ghost use Rattle.std.specs.Prelude.{List, ℕ, ◌≡◌, ◌≤◌, IfErr, IfOk, string_bytes};
 ghost use Rattle.run_endings.specs.Ending.{answer_text};
 ghost use Rattle.run_input.specs.Reading.{SourceStops, UnlessUnread, untold_end};
 ghost use Rattle.run_input.specs.TraceChecks.{AnswersSource, AnswersText, KeepsAnswers, TellsAnswer};

@@ -1,5 +1,5 @@
 //! How many entries each process may make.
-ghost use Rattle.std.specs.Prelude.{◌≡◌, ◌<◌, ◌≤◌, ◌+◌, ◌-◌, ◌^◌, length, slice_index, slice_set, IfOk};
+ghost use Rattle.std.specs.Prelude.{ℕ, ◌≡◌, ◌<◌, ◌≤◌, ◌+◌, ◌-◌, ◌^◌, length, slice_index, slice_set, IfOk};
 ghost use Rattle.volume_files.specs.vm_script.Blocks.{Nests};
 ghost use Rattle.volume_files.specs.vm_script.Counts.{parts, entry_count};
 ghost use Rattle.volume_files.specs.vm_script.Processes.{kernel_parents};

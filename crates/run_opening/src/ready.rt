@@ -1,19 +1,20 @@
 //! A run up to the point where its processes can run.
-ghost use Rattle.std.specs.Prelude.{ℕ, ◌≡◌, ◌≤◌, ◌<◌, ◌+◌, ◌^◌, List, Option, map, IfOk, IfErr, Ok, [], length, option_map, vec_capacity};
+ghost use Rattle.std.specs.Prelude.{ℕ, ◌≡◌, ◌≤◌, ◌<◌, ◌+◌, ◌^◌, List, Option, map, string_bytes, IfOk, IfErr, Ok, None, [], length, option_map, vec_capacity};
 ghost use Rattle.volume_files.specs.block_device.declared.rack.Spec.{Spec};
 ghost use Rattle.volume_files.specs.joined_disk.JoinedSeen.{joined_seen};
 ghost use Rattle.volume_files.specs.volume_disks.Singles.{single_seen};
-ghost use Rattle.run_input.specs.Asked.{Given, WasAsked};
-ghost use Rattle.volume_files.specs.Attached.{ArePlaced, HasRooms, attached_seen, bare_disks};
-ghost use Rattle.volume_files.specs.stored_files.Written.{AreOnlyRead};
+ghost use Rattle.run_input.specs.Asked.{Given, Asked, WasAsked, given_of};
+ghost use Rattle.volume_files.specs.Attached.{AreAttached, ArePlaced, HasRooms, attached_seen, bare_disks};
+ghost use Rattle.volume_files.specs.stored_files.Written.{numbered_seen, AreOnlyRead};
 ghost use Rattle.run_outcome.specs.Stopped.{HasCase};
 ghost use Rattle.run_opening.specs.Ready.{IsReady, AreReadBytes, Traces, opening_stop};
-ghost use Rattle.run_input.specs.Reading.{IsReadPlan};
+ghost use Rattle.run_input.specs.Reading.{IsReadPlan, IsPlayable};
 ghost use Rattle.volume_files.specs.Handed.{AreUncounted, member_count};
 ghost use Rattle.volume_files.specs.Opened.{OpenedFile, numbered_plan};
-ghost use Rattle.run_outcome.specs.Run.{Outside};
+ghost use Rattle.run_outcome.specs.Run.{NoneFailed, Outside, outside_of};
 ghost use Rattle.run_report.specs.ReportEnds.{UnlessEnded};
 ghost use Rattle.run_endings.specs.declared.ending.Ending.TheVariants.{Memory};
+ghost use Rattle.volume_files.specs.vm_script.Rules.{broken_rule};
 
 use command_line::Options;
 use run_endings::Ending;
@@ -21,8 +22,8 @@ use run_outcome::{Stop, stop_unopened};
 use std::alloc::Global;
 use vm_core::KernelHistory;
 use volume_files::{
-    Attached, Disk, JoinedDisk, OpenFault, Placed, Plan, Rack, ShowStop, Single, Sink, attach,
-    into_disks, into_swap, place, setup_law, trace_opening,
+    Attached, Disk, JoinedDisk, OpenFault, Placed, Plan, Rack, ShowStop, Single, Sink, Source,
+    Unopened, attach, into_disks, into_swap, place, setup_law, trace_opening,
 };
 
 /// A run whose processes can run.
