@@ -12,7 +12,9 @@ use Rattle.vm_core.specs.vm_types.declared.call.Reply.{Reply}
 use Rattle.vm_core.specs.vm_world.SeatLaws.{IsKnownAlive, MayComeNext}
 use Rattle.vm_core.proofs.vm_world.SeatRules.{seat_law}
 use Rattle.vm_kernel.specs.Callers.{KernelSeen, CallerSeen, ShowsOwn}
-use Rattle.vm_kernel.specs.Turns.{MayCall, CallerGoesOn, IsTurn, IsCallDone, LacksMemory, IsForCall, caller_at}
+use Rattle.vm_kernel.specs.Turns.{MayCall, CallerGoesOn, IsQuick, IsTurn, IsCallDone, LacksMemory, IsForCall, caller_at, reply_of}
+use Rattle.vm_kernel.specs.declared.turn.Quick.{Quick}
+use Rattle.vm_kernel.specs.declared.turn.Quick.TheVariants as quick
 use Rattle.vm_kernel.specs.declared.turn.Turn.{Turn}
 use Rattle.vm_kernel.proofs.Visited.{turn-later, done-later, refused-later}
 
@@ -42,6 +44,13 @@ may-still k c m call may goes own hand = record {
       (subst (λ (es : List Entry). MayComeNext k.opening.parents k.opening.entries es c.process call) (sym own) may.next);
   hand = subst (λ (q : ℕ). IsForCall q call m.seat.note) (sym goes.process) hand;
 }
+
+-- A try that is done.
+pub quick-done : (c : CallerSeen) (call : Call) (d : CallerSeen) (q : Quick) → (q ≡ quick.Later → ⊥) → IsQuick c call d q → IsCallDone c call d (reply_of q)
+quick-done c call d (quick.Word w) done is = is
+quick-done c call d quick.Stored done is = is
+quick-done c call d (quick.Signal s) done is = is
+quick-done c call d quick.Later done is = absurd (done refl)
 
 -- A call that has no entry yet.
 pub record Unanswered (c : CallerSeen) (call : Call) (d : CallerSeen) : Type 0 where

@@ -180,6 +180,13 @@ turn_of_ended (ended.Failed disk before after) = Done (reply.Io disk before afte
 turn_of_ended ended.Moved = Again Moved
 turn_of_ended ended.Held = Again LockHeld
 
+-- Inside: the reply that such a word, store or signal is.
+abbrev pub reply_of : Quick → Reply
+reply_of (quick.Word word) = reply.Word word
+reply_of quick.Stored = reply.Done
+reply_of (quick.Signal signal) = reply.Signal signal
+reply_of quick.Later = reply.Done
+
 -- Inside: what a call has come to: it is done, with this reply, or there is no entry yet.
 abbrev pub HasComeTo : CallerSeen → Call → CallerSeen → Option Reply → Type 0
 HasComeTo c call d (Some r) = IsCallDone c call d r

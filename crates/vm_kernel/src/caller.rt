@@ -16,6 +16,8 @@ pub struct Caller<D: Disk> {
     // 0 where the caller is for no process.
     pub(crate) process: u32,
     pub(crate) sent: Option<SentFlight<D>>,
+    // Whether its last load or store waited for a transfer: then the next isn't looked for as a hit before it is tried.
+    pub(crate) misses: bool,
 }
 
 impl<D: Disk> Model for Caller<D> {
@@ -37,6 +39,7 @@ impl<D: Disk> Drop for Caller<D> {
             seat,
             process: _,
             sent,
+            misses: _,
         } = self;
         drop(seat);
         drop(sent);
@@ -68,6 +71,7 @@ impl<D: Disk> Caller<D> {
             seat,
             process: _,
             sent,
+            misses: _,
         } = self;
         drop(sent);
         seat

@@ -9,7 +9,7 @@ use crate::boxed::BoxedState;
 use crate::caller::Caller;
 use crate::halves::{access_at, end_at, move_at, turn_at};
 use crate::hits::hit_at;
-use crate::turn::{Ended, Quick, Turn, Why};
+use crate::turn::{Ended, Quick, Turn, Why, reply_of};
 use kernel_lock::lock::KernelLock;
 use std::alloc::AllocError;
 use std::marker::Model;
@@ -144,7 +144,7 @@ impl<D: Disk> VmKernel<D> {
         self.call_by_turns(rt, caller, call)
     }
 
-    // One try, behind a turn, where the call is a load or a store and nothing is in hand.
+    // One try, before or behind a turn, where the call is a load or a store and nothing is in hand.
     #[inline(always)]
     fn access(&self, caller: &mut Caller<D>, call: &Call) -> Quick
         requires caller { IsCallerOf self.now caller.old }
@@ -180,7 +180,8 @@ impl<D: Disk> VmKernel<D> {
         }
     }
 
-    // The same, but that a hit is looked for first. Each kind has an arm, so that a hit's code looks at it once.
+    // The same, but that a hit is looked for first, unless the last load or store was none. Each kind has an arm, so that a hit's code looks
+    // at it once.
     #[inline(always)]
     fn hit(&self, caller: &mut Caller<D>, call: &Call) -> Quick
         requires caller { IsCallerOf self.now caller.old }
@@ -192,6 +193,10 @@ impl<D: Disk> VmKernel<D> {
         ensures all { IsAllFor self.now caller.old call.now caller.new }
     {
         if caller.sent.is_some() {
+            return self.untried(caller, call);
+        }
+        if caller.misses {
+            caller.misses = false;
             return self.untried(caller, call);
         }
         match *call {
@@ -242,6 +247,7 @@ impl<D: Disk> VmKernel<D> {
         // Each try of the lock was for the call.
         ensures all { IsAllFor self.now caller.old call.now caller.new }
     {
+        caller.misses = true;
         let leaves = self.lock.leaves();
         let ended = end_at(
             &self.lock,
@@ -326,7 +332,7 @@ impl<D: Disk> VmKernel<D> {
         }
     }
 
-    // Turns until there is a reply, and behind each the one try of a load or a store. Not inline, so that a hit's code has no room for
+    // Turns until there is a reply, and before each the one try of a load or a store. Not inline, so that a hit's code has no room for
     // its values.
     #[inline(never)]
     fn call_by_turns<R: Wait>(
@@ -348,16 +354,14 @@ impl<D: Disk> VmKernel<D> {
         caller.own_law();
         let mut reply = None;
         for _ in rt.forever() {
+            match self.access(caller, call) {
+                Quick::Later => {}
+                quick => return Ok(reply_of(quick)),
+            }
             self.go_on(rt, caller, call, &mut reply)?;
             match reply {
                 Some(reply) => return Ok(reply),
                 None => {}
-            }
-            match self.access(caller, call) {
-                Quick::Word(word) => return Ok(Reply::Word(word)),
-                Quick::Stored => return Ok(Reply::Done),
-                Quick::Signal(signal) => return Ok(Reply::Signal(signal)),
-                Quick::Later => {}
             }
         }
         unreachable!()

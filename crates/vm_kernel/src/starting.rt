@@ -55,6 +55,7 @@ fn caller_of<D: Disk>(seat: Seat<BoxedState<D>>, process: u32) -> Caller<D>
         seat,
         process,
         sent: None,
+        misses: false,
     }
 }
 
