@@ -111,7 +111,7 @@ fn unused_victim<D: Disk>(world: &mut World<D>, beside: Option<u32>) -> Option<u
     None
 }
 
-/// The bits of use of a frame's page are cleared.
+/// The bit of use in a frame's row is cleared.
 fn forget_use<D: Disk>(world: &mut World<D>, frame: u32)
     requires frame { frame < length world.old.store.frames }
     requires fits { IsFit world.old }
@@ -119,15 +119,11 @@ fn forget_use<D: Disk>(world: &mut World<D>, frame: u32)
     ensures lists { SameLists world.old.store world.new.store }
     ensures makes { MakesRoom world.old world.new }
 {
-    if world.store.listed(frame) {
-        return;
-    }
-    sync(world, frame);
     let (_, modified) = world.store.bits(frame);
     world.store.set_bits(frame, false, modified);
 }
 
-/// The bits of use of all pages are cleared.
+/// The bits of use in the rows of all pages are cleared. Those of the translations were gathered into them as the frames were looked at.
 fn forget_all_use<D: Disk>(world: &mut World<D>)
     requires fits { IsFit world.old }
     // What stays.
@@ -167,7 +163,7 @@ fn victim_but<D: Disk>(store: &mut Store<D>, beside: Option<u32>) -> Option<u32>
     }
 }
 
-/// Where all pages were used, all count as unused, and the next one behind the hand gives way.
+/// Where all pages were used, the bits of use in their rows are cleared, and the next one behind the hand gives way.
 fn next_victim<D: Disk>(world: &mut World<D>, beside: Option<u32>) -> u32
     requires beside { (frame : ℕ) → beside ≡ Some frame → frame < length world.old.store.frames }
     requires home { OneIsHomeBut world.old.store beside }
