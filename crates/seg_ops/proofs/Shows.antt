@@ -9,11 +9,13 @@ use Rattle.page_store.specs.page_lock.Rows.{row_at}
 use Rattle.page_store.specs.page_lock.declared.Row.{Row}
 use Rattle.page_store.specs.Laws.{StaysInPlace, SameResidence}
 use Rattle.page_store.specs.Moves.{is_only}
-use Rattle.page_store.specs.Seen.{StoreSeen, IsListedFrame, residence}
+use Rattle.page_store.specs.Seen.{StoreSeen, IsListedFrame, IsSoundStore, residence}
 use Rattle.page_store.specs.Steps.{at_frame, after_reclaim}
 use Rattle.page_store.specs.page_lists.ListsSeen.{without_frame}
 use Rattle.page_store.specs.declared.residence.Residence.TheVariants.{Home}
+use Rattle.page_store.proofs.page_lists.ListLemmas.{without_frame-absent}
 use Rattle.page_store.proofs.QueryLemmas.{home-is, found-within}
+use Rattle.page_store.proofs.RowSteps.{stays-reclaimed}
 use Rattle.vm_world.specs.hat_layer.Pool.{fresh_translation}
 use Rattle.vm_world.specs.MemoryFits.{MemoryFits}
 use Rattle.vm_world.specs.Segments.{Spaces}
@@ -77,6 +79,18 @@ reclaim-keeps w spaces new name frame f home step unlisted laws =
     }) refl f.pool.single
     (λ i t is. translation-kept w.store new w.anon w.maps spaces t laws.residence (listed t.frame) (f.translations i t is))
     (λ notes nf. laws.values notes (world_table w) nf.stored)
+
+-- where the frame is on no list, nothing changes
+pub reclaim-still : (s : StoreSeen) (name : PageName) (frame : ℕ) → find s.names name ≡ Some frame → ¬ IsListedFrame s frame → after_reclaim s name ≡ s
+reclaim-still s name frame found off =
+    ap (λ (o : Option ℕ). at_frame o s (λ f. record s { cached = without_frame s.cached f })) found
+    ∙ ap (λ (l : List ℕ). record s { cached = l }) (without_frame-absent s.cached frame (λ h. off (inr h)))
+
+pub still-stays : (s : StoreSeen) (name : PageName) (frame : ℕ) → IsSoundStore s → find s.names name ≡ Some frame → ¬ IsListedFrame s frame → StaysInPlace s s (is_only (find s.names name))
+still-stays s name frame sound found off =
+    subst (λ (x : StoreSeen). StaysInPlace s x (is_only (find s.names name))) (reclaim-still s name frame found off)
+    (subst (λ (o : Option ℕ). StaysInPlace s (at_frame o s (λ f. record s { cached = without_frame s.cached f })) (is_only o)) (sym found)
+    (stays-reclaimed s frame sound (found-within s name frame sound found)))
 
 -- the translation of a page that may be shown fits
 pub shown-fits : (w : World) (new : StoreSeen) (spaces : Spaces) (p q : ℕ) (name : PageName) (frame : ℕ) (writable : Bool) → residence new name ≡ Home frame → ¬ IsListedFrame new frame → MayShow w spaces p q name writable

@@ -1,8 +1,10 @@
 //! Translations that are loaded.
 ghost use Rattle.std.specs.Prelude.{◌≡◌, ℕ, ◌<◌, length, option_map};
 ghost use Rattle.vm_world.specs.hat_layer.Pool.{told_of, fresh_translation, dropped_by_load};
+ghost use Rattle.page_store.specs.page_hash.Names.{find};
 ghost use Rattle.page_store.specs.page_hash.declared.PageName.{PageName};
-ghost use Rattle.page_store.specs.Laws.{SameResidence};
+ghost use Rattle.page_store.specs.Laws.{SameResidence, StaysInPlace};
+ghost use Rattle.page_store.specs.Moves.{is_only};
 ghost use Rattle.page_store.specs.Seen.{IsListedFrame, residence};
 ghost use Rattle.page_store.specs.Steps.{after_reclaim};
 ghost use Rattle.vm_world.specs.Segments.{Spaces};
@@ -13,7 +15,7 @@ ghost use Rattle.vm_world.specs.World.{world_seen};
 ghost use Rattle.seg_ops.specs.Steps.{IsLoaded, KeepsOtherTranslations, KeepsWhereShown, with_dropped_gathered};
 
 use crate::tables::gather;
-use page_store::{Disk, PageName, Residence};
+use page_store::{Disk, PageName, Residence, Store};
 use vm_world::World;
 
 /// Loads a translation, and gathers the bits of the one that had to give way into its page. Constant expected time.
@@ -36,6 +38,21 @@ pub fn install<D: Disk>(world: &mut World<D>, space: u32, page: u32, frame: u32,
 {
     let dropped = world.hat.load(space, page, frame, writable);
     gather(&mut world.store, dropped);
+}
+
+/// Takes the frame of a page that is home off the cache list, where it is there. A frame on no list needs no look for its page.
+#[inline(always)]
+fn take_off<D: Disk>(store: &mut Store<D>, name: PageName, frame: u32)
+    requires home { residence store.old name ≡ Residence.Home frame }
+    ensures new { store.new ≡ after_reclaim store.old name }
+    ensures unlisted { ¬ IsListedFrame store.new frame }
+    ensures laws { StaysInPlace store.old store.new (is_only (find store.old.names name)) }
+{
+    store.sound();
+    if !store.listed(frame) {
+        return;
+    }
+    store.reclaim(name);
 }
 
 /// Loads the translation of a page that is home, and takes its frame off the cache list where it is there. Constant expected time.
@@ -61,7 +78,7 @@ pub fn show<D: Disk>(
     ensures modified { ModifiesNone (world_seen world.old) (world_seen world.new) }
     ensures keeps { KeepsWhereShown world.old world.new space page name writable }
 {
-    world.store.reclaim(name);
+    take_off(&mut world.store, name, frame);
     install(world, space, page, frame, writable);
 }
 
