@@ -14,7 +14,7 @@ ghost use Rattle.page_store.specs.Seen.{residence, IsListedFrame, IsSoundStore};
 ghost use Rattle.page_store.specs.Steps.{next_frame, next_name, with_row};
 ghost use Rattle.page_store.specs.Table.{PlaceTable};
 ghost use Rattle.page_store.specs.Value.{value};
-ghost use Rattle.page_store.specs.Waits.{Waits, plan_page, ChoosesFrame, IsVictim};
+ghost use Rattle.page_store.specs.Waits.{Waits, holder_of, plan_page, ChoosesFrame, IsVictim};
 
 use crate::bays::Bays;
 use crate::order::Order;
@@ -241,6 +241,15 @@ impl<D: Disk> Store<D> {
                 return Some(Hold::Page(seat));
             }
         }
+        self.bays.holder(disk).map(Hold::Disk)
+    }
+
+    /// What a plan waits for whose page nobody has locked: the seat that has the disk, if one does. The page needs no look.
+    pub fn disk_ready(&self, disk: u32) -> Option<Hold>
+        requires { bay_at self.now.bays disk ≢ missing }
+        ensures { (name : PageName) → holder_of self.now name ≡ None
+            → Waits self.now name disk result }
+    {
         self.bays.holder(disk).map(Hold::Disk)
     }
 

@@ -56,14 +56,19 @@ lives-on w spaces name f exists = elim (page-cases w.files w.anon name (exists-p
 ]
 
 -- nobody holds the lock of a page that is absent or home
+pub absent-unlocked : (w : World) (spaces : Spaces) (name : PageName) → MemoryFits (memory_of w spaces) → residence w.store name ≡ Absent → holder_of w.store name ≡ None
+absent-unlocked w spaces name f absent = ap (λ (o : Option ℕ). holder_in o w.store) (absent-is w.store name f.frames.sound absent)
+
+pub home-unlocked : (w : World) (spaces : Spaces) (name : PageName) (frame : ℕ) → MemoryFits (memory_of w spaces) → residence w.store name ≡ Home frame → holder_of w.store name ≡ None
+home-unlocked w spaces name frame f home =
+    let at = home-is w.store name frame home in
+    ap (λ (o : Option ℕ). holder_in o w.store) at.found ∙ unlocked w spaces frame f (subst (λ (b : Option (List ℕ)). IsSome b) (sym at.there) refl)
+
 absent-free : (w : World) (spaces : Spaces) (name : PageName) (seat : ℕ) → MemoryFits (memory_of w spaces) → residence w.store name ≡ Absent → holder_of w.store name ≡ Some seat → ⊥
-absent-free w spaces name seat f absent h = let none = absent-is w.store name f.frames.sound absent in let z : None ≡ Some seat = sym (ap (λ (o : Option ℕ). holder_in o w.store) none) ∙ h in cc
+absent-free w spaces name seat f absent h = let z : None ≡ Some seat = sym (absent-unlocked w spaces name f absent) ∙ h in cc
 
 pub home-free : (w : World) (spaces : Spaces) (name : PageName) (frame seat : ℕ) → MemoryFits (memory_of w spaces) → residence w.store name ≡ Home frame → holder_of w.store name ≡ Some seat → ⊥
-home-free w spaces name frame seat f home h =
-    let at = home-is w.store name frame home in
-    let free = unlocked w spaces frame f (subst (λ (b : Option (List ℕ)). IsSome b) (sym at.there) refl) in
-    let z : None ≡ Some seat = sym free ∙ sym (ap (λ (o : Option ℕ). holder_in o w.store) at.found) ∙ h in cc
+home-free w spaces name frame seat f home h = let z : None ≡ Some seat = sym (home-unlocked w spaces name frame f home) ∙ h in cc
 
 -- the page of a modified frame exists
 pub dirty-exists : (w : World) (spaces : Spaces) (name : PageName) → MemoryFits (memory_of w spaces) → IsDirtyPage w name → IsTrue (page_exists w.files w.anon name)

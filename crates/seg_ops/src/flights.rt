@@ -118,7 +118,7 @@ fn prepare_push<D: Disk>(world: &mut World<D>, name: PageName)
 }
 
 /// The page of a plan.
-fn plan_page(plan: Plan) -> PageName
+pub(crate) fn plan_page(plan: Plan) -> PageName
     ensures { result ≡ plan_page plan }
 {
     match plan {

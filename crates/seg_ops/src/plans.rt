@@ -1,8 +1,8 @@
 //! What a page that isn't home needs: a transfer, or somebody who is waited for.
-ghost use Rattle.std.specs.Prelude.{◌≡◌, ◌≢◌, IsTrue, IsFalse};
+ghost use Rattle.std.specs.Prelude.{◌≡◌, ◌≢◌, None, IsTrue, IsFalse};
 ghost use Rattle.page_store.specs.Bays.{bay_at, missing};
 ghost use Rattle.page_store.specs.Seen.{residence};
-ghost use Rattle.page_store.specs.Waits.{plan_page};
+ghost use Rattle.page_store.specs.Waits.{holder_of, plan_page};
 ghost use Rattle.page_store.specs.declared.residence.Residence.TheVariants.{Absent};
 ghost use Rattle.vm_world.specs.Segments.{Spaces};
 ghost use Rattle.vm_world.specs.Words.{memory, Fits, IsFit, IsKnown, OneIsHome};
@@ -10,6 +10,7 @@ ghost use Rattle.vm_world.specs.World.{world_seen, world_table, is_unpushed, pag
 ghost use Rattle.seg_ops.specs.Plans.{IsAsked, FetchesPage};
 ghost use Rattle.seg_ops.specs.Rooms.{ListsOneMore, MakesRoom};
 
+use crate::flights::plan_page;
 use crate::rooms::make_room;
 use page_store::{Disk, PageName, Plan, SWAP_DISK, SWAP_OBJECT};
 use vm_world::{Wants, World};
@@ -53,6 +54,20 @@ pub fn ask<D: Disk>(world: &World<D>, plan: Plan) -> Wants
     }
 }
 
+/// The same of a plan whose page nobody has locked, which needs no look then.
+fn ask_unlocked<D: Disk>(world: &World<D>, plan: Plan) -> Wants
+    requires fits { IsFit world.now }
+    requires exists { IsTrue (page_exists world.now.files world.now.anon (plan_page plan)) }
+    requires unlocked { holder_of world.now.store (plan_page plan) ≡ None }
+    ensures { IsAsked (world_seen world.now) plan result }
+{
+    let disk = disk_of(world, plan_page(plan));
+    if let Some(hold) = world.store.disk_ready(disk) {
+        return Wants::Seat(hold);
+    }
+    Wants::Transfer(plan)
+}
+
 /// What a page needs that no frame holds and that isn't blank: to be read in, where a frame can be had, else that a
 /// modified page is pushed.
 #[inline(always)]
@@ -71,7 +86,7 @@ pub fn fetch<D: Disk>(world: &mut World<D>, name: PageName) -> Wants
     ensures listed { ListsOneMore world.old.store world.new.store }
 {
     match make_room(world) {
-        None => ask(world, Plan::Read(name)),
-        Some(page) => ask(world, Plan::Push(page)),
+        None => ask_unlocked(world, Plan::Read(name)),
+        Some(page) => ask_unlocked(world, Plan::Push(page)),
     }
 }
