@@ -67,6 +67,19 @@ impl<D: Disk> Bays<D> {
         self.bays[number as usize] = Bay::Home(disk);
     }
 
+    /// Puts back a disk that is out. That there is none in its place is told first, so that none is looked for and dropped.
+    pub fn bring_back(&mut self, number: u32, disk: D)
+        requires { (seat : ℕ) × (bay_at self.old number ≡ out seat) }
+        ensures { self.new ≡ slice_set self.old number (home (D.seen disk)) }
+    {
+        match &self.bays[number as usize] {
+            Bay::Out(_) => {}
+            Bay::Home(_) => unreachable!(),
+            Bay::Missing => unreachable!(),
+        }
+        self.put(number, disk);
+    }
+
     /// Takes a disk out for good.
     pub fn remove(&mut self, number: u32) -> Option<D>
         requires within { number < length self.old }

@@ -28,6 +28,7 @@ pub(crate) fn take_frame(lists: &mut PageLists) -> u32
 }
 
 /// Gives a frame a name that no frame holds, in place of the name that it holds.
+#[inline(always)]
 pub(crate) fn rename(names: &mut PageHash, frame: u32, name: PageName)
     requires within { frame < length names.old }
     requires absent { find names.old name ≡ None }

@@ -42,7 +42,7 @@ impl<D: Disk> Store<D> {
         } = flight;
         let at = frame.number();
         self.core.put(frame);
-        self.bays.put(number, disk);
+        self.bays.bring_back(number, disk);
         settle(&mut self.locks, at, is_dirty(stage));
         let lost = is_lost(writes, stage, self.locks.row(at).gone);
         land(
@@ -106,6 +106,7 @@ fn is_done(stage: Stage) -> bool
 }
 
 // A frame that came back has its page and no holder, or is free.
+#[inline(always)]
 fn land(
     names: &mut PageHash,
     locks: &mut PageLocks,

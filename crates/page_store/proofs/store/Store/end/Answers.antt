@@ -13,7 +13,6 @@ use Rattle.page_store.specs.Stages.{outcome_at}
 use Rattle.page_store.specs.Steps.{after_end, is_lost, is_dirty}
 use Rattle.page_store.specs.Transfers.{EndsTransfer}
 use Rattle.page_store.proofs.EndLemmas.{ends-flight, ended-parts, Back, back-at}
-use Rattle.page_store.proofs.TransferLemmas.{out-within}
 use Rattle.page_store.proofs.store.Store.end.Given.{Over}
 use Rattle.page_store.proofs.store.Store.end.Goals.{After-put, After-land}
 use Rattle.page_store.proofs.store.Store.end.Goals as goal
@@ -46,10 +45,9 @@ back : (g : Over) (c : After-put g) (dirty : Bool) → Back
     (store_of c.self.inside.core c.self.inside.names c.self.inside.lists c.self.inside.locks c.self.inside.clock c.self.inside.bays c.self.inside.order) c.number-at.result dirty
 back g c dirty = back-at _ c.number-at.result c.flight.inside.seat dirty c.self.invariant.sound (held g c)
 
-pub put-requires-2 : goal.put-requires-2
-put-requires-2 g c =
-    out-within c.self.inside.bays c.flight.inside.number c.flight.inside.seat
-    (ap (λ (x : StoreSeen). bay_at x.bays c.flight.inside.number) c.self.view_is ∙ (out_of g (goal.at.put-requires-2 g c).After-put).out.bay)
+pub bring_back-requires : goal.bring_back-requires
+bring_back-requires g c =
+    (c.flight.inside.seat, ap (λ (x : StoreSeen). bay_at x.bays c.flight.inside.number) c.self.view_is ∙ (out_of g (goal.at.bring_back-requires g c).After-put).out.bay)
 
 pub settle-requires-clause-frame : goal.settle-requires-clause-frame
 settle-requires-clause-frame g c = (back g (goal.at.settle-requires-clause-frame g c).After-put c.is_dirty.result).within
@@ -106,7 +104,7 @@ flight g c = record {
 
 -- the store that the call makes, and its laws
 record Ended (g : Over) (c : After-land g) : Type 0 where
-  new : store_of c.put.new.self c.land.new.names c.land.new.lists c.land.new.locks c.self.inside.clock c.put-2.new.self c.self.inside.order ≡ after_end c.args.self.now c.args.flight
+  new : store_of c.put.new.self c.land.new.names c.land.new.lists c.land.new.locks c.self.inside.clock c.bring_back.new.self c.self.inside.order ≡ after_end c.args.self.now c.args.flight
   laws : EndsTransfer c.args.self.now (after_end c.args.self.now c.args.flight) c.args.flight
 
 is : (g : Over) (c : After-land g) → Ended g c
@@ -118,7 +116,7 @@ is g c =
     let lost : c.is_lost-lost.result ≡ is_lost c.flight.inside.writes (outcome_at c.flight.inside.stage) (row_at c.settle.new.locks c.flight.inside.frame.number).gone =
     c.is_lost-lost.ensures ∙ ap (λ (r : Row). is_lost c.flight.inside.writes (outcome_at c.flight.inside.stage) r.gone) (c.row.ensures ∙ ap (row_at c.settle.new.locks) c.number-at.ensures) in
     record {
-      new = rw (c.put.ensures.new, c.land.ensures.names, c.land.ensures.locks, c.land.ensures.lists, c.put-2.ensures)
+      new = rw (c.put.ensures.new, c.land.ensures.names, c.land.ensures.locks, c.land.ensures.lists, c.bring_back.ensures)
           (ended-parts (store_of c.self.inside.core c.self.inside.names c.self.inside.lists c.self.inside.locks c.self.inside.clock c.self.inside.bays
           c.self.inside.order) (flight g c) c.settle.new.locks c.number-at.result c.is_lost-lost.result c.is_dirty-2.result c.number-at.ensures mid c.is_dirty-2.ensures lost)
           ∙ ap (λ (x : StoreSeen). after_end x (flight g c)) c.self.view_is ∙ ap (after_end c.args.self.now) c.flight.view_is;
