@@ -50,12 +50,17 @@ impl<D: Disk> VmState<D> {
             ≡ marks_landed self.old.marks seat flight (length self.old.history) }
     {
         self.mark_end(seat, &flight);
+        if !flight.has_failed() {
+            let (_, _, faults) = flight.counts();
+            within_counts(faults);
+            self.land(flight);
+            return None;
+        }
         let (disk, before, after) = flight.counts();
-        let failed = flight.has_failed();
         within_counts(after);
         self.land(flight);
         match call {
-            Some((process, call)) if failed => {
+            Some((process, call)) => {
                 let reply = Reply::Io {
                     disk,
                     before,
@@ -65,7 +70,7 @@ impl<D: Disk> VmState<D> {
                 self.add(process, call, &reply);
                 Some(reply)
             }
-            _ => None,
+            None => None,
         }
     }
 
