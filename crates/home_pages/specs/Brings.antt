@@ -34,3 +34,8 @@ PageBrought old new spaces name answer = BringsPage (memory old spaces) (memory 
 
 abbrev pub IsPageBrought : {D : Type 0} → rust.World D → rust.World D → PageName → Result Unit Wants → Type 0
 IsPageBrought old new name answer = (spaces : Spaces) → Fits old spaces → PageBrought old new spaces name answer
+
+-- The page came home, and this frame holds it; or it wasn't home, and this must come first.
+abbrev pub IsFrameBrought : {D : Type 0} → rust.World D → rust.World D → PageName → Result ℕ Wants → Type 0
+IsFrameBrought old new name (Ok frame) = IsPageBrought old new name (Ok tt) × (residence new.store name ≡ Home frame)
+IsFrameBrought old new name (Err want) = IsPageBrought old new name (Err want)

@@ -8,4 +8,3 @@ pub mod Longer
 pub mod Shorter
 pub mod VoidedPages
 pub mod Served
-pub mod Frames

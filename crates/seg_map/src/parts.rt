@@ -12,7 +12,7 @@ ghost use Rattle.seg_ops.specs.vm_world.Segments.{Spaces};
 ghost use Rattle.seg_ops.specs.vm_world.Words.{memory, Fits, IsFit, IsKnown, OneIsHome, OnlyFrames};
 ghost use Rattle.seg_map.specs.Served.{ServesBytes};
 
-use crate::frames::bring_frame;
+use home_pages::bring_page;
 use seg_ops::{Disk, Line, PAGE_SIZE, PageName, Residence, Wants, World, line_rest};
 
 /// How many bytes a part of a read gets of a file of so many: what it asks for, but none past its line and the file's end.
@@ -66,6 +66,6 @@ pub fn read_line<D: Disk>(
         object: file,
         page: offset / PAGE_SIZE,
     };
-    let frame = bring_frame(world, name)?;
+    let frame = bring_page(world, name)?;
     Ok(line_of(world, frame, offset % PAGE_SIZE, count))
 }

@@ -18,9 +18,10 @@ ghost use Rattle.seg_map.specs.Puts.{with_bytes_in};
 ghost use Rattle.seg_map.specs.Served.{ServesPart};
 
 use crate::bytes::put;
-use crate::frames::{bring_frame, take_if_listed};
+use crate::frames::take_if_listed;
 use crate::longer::make_longer;
 use crate::ready::ready_last;
+use home_pages::bring_page;
 use seg_ops::{
     Disk, Line, PAGE_SIZE, PageName, Plan, Residence, Wants, World, ask, fill_page, free_next,
     make_room, make_room_beside, pages_in,
@@ -71,7 +72,7 @@ fn write_within<D: Disk>(
         object: file,
         page: offset / PAGE_SIZE,
     };
-    let frame = bring_frame(world, name)?;
+    let frame = bring_page(world, name)?;
     take_if_listed(world, name, frame);
     put_line(world, file, offset, frame, line);
     Ok(())
@@ -107,7 +108,7 @@ fn write_last<D: Disk>(
         object: file,
         page: offset / PAGE_SIZE,
     };
-    let frame = bring_frame(world, name)?;
+    let frame = bring_page(world, name)?;
     take_if_listed(world, name, frame);
     make_longer(world, file, end);
     put_line(world, file, offset, frame, line);

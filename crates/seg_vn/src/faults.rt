@@ -8,7 +8,7 @@ ghost use Rattle.seg_ops.specs.Slots.{IsNewZero};
 ghost use Rattle.seg_vn.specs.FaultPlaces.{PagePlace, ZerosShown};
 ghost use Rattle.seg_ops.specs.Faults.{FaultServed};
 
-use crate::segment::load_page;
+use crate::segment::{load_frame, load_page};
 use home_pages::bring_page;
 use seg_ops::{
     Disk, Fault, PageName, Plan, SWAP_OBJECT, Wants, World, ask, free_next, make_room, make_zero,
@@ -33,8 +33,8 @@ pub(crate) fn fault_page<D: Disk>(
     // What stays.
     ensures rest { OnlyFrames world.old world.new }
 {
-    bring_page(world, name)?;
-    load_page(world, space, page, name, writable);
+    let frame = bring_page(world, name)?;
+    load_frame(world, space, page, name, frame, writable);
     Ok(Fault::Loaded)
 }
 

@@ -30,7 +30,28 @@ impl Model for VnSeg {
     ghost invariant = { λ s. IsSoundSegment s.segment };
 }
 
-/// Loads the translation of a page that is home.
+/// Loads the translation of a page that is home in this frame.
+pub(crate) fn load_frame<D: Disk>(
+    world: &mut World<D>,
+    space: u32,
+    page: u32,
+    name: PageName,
+    frame: u32,
+    writable: bool,
+)
+    requires home { residence world.old.store name ≡ Residence.Home frame }
+    requires fits { IsFit world.old }
+    ensures loaded { IsLoaded world.new space page frame writable }
+    ensures keeps { KeepsWhereShown world.old world.new space page name writable }
+    // What stays.
+    ensures names { world.new.store.names ≡ world.old.store.names }
+    ensures modified { ModifiesNone (world_seen world.old) (world_seen world.new) }
+    ensures rest { OnlyStoreAndHat world.old world.new }
+{
+    show(world, space, page, name, frame, writable);
+}
+
+/// The same, once its frame is found.
 pub(crate) fn load_page<D: Disk>(
     world: &mut World<D>,
     space: u32,
@@ -50,7 +71,7 @@ pub(crate) fn load_page<D: Disk>(
     let Residence::Home(frame) = world.store.resident(name) else {
         unreachable!();
     };
-    show(world, space, page, name, frame, writable);
+    load_frame(world, space, page, name, frame, writable);
 }
 
 impl VnSeg {

@@ -6,8 +6,9 @@ use Rattle.home_pages.proofs.Brings.{fetch-brings, home-brings, moving-brings}
 use Rattle.home_pages.proofs.brought.bring_page.Goals as goal
 
 pub returns-in-Home-clause-brings : goal.returns-in-Home-clause-brings
-returns-in-Home-clause-brings g c = λ spaces fits.
-    home-brings (world_seen c.args.world.now) spaces c.args.world.now.pending c.args.name c.in-Home.field-0 fits (sym c.resident.ensures.residence ∙ c.in-Home.is)
+returns-in-Home-clause-brings g c =
+    let home = sym c.resident.ensures.residence ∙ c.in-Home.is in
+    ((λ spaces fits. home-brings (world_seen c.args.world.now) spaces c.args.world.now.pending c.args.name c.in-Home.frame fits home), home)
 
 pub returns-in-Moving-clause-brings : goal.returns-in-Moving-clause-brings
 returns-in-Moving-clause-brings g c = λ spaces fits.

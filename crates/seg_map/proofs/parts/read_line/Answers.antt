@@ -33,8 +33,8 @@ exists g c some =
     let e = count-is g c in
     below-exists w c.args.file (page c.args.offset) far (omega (arith, some, e))
 
-pub bring_frame-requires-clause-exists : goal.bring_frame-requires-clause-exists
-bring_frame-requires-clause-exists g c = exists g (goal.at.bring_frame-requires-clause-exists g c).After-part_count-count (let ne = c.if-count-eq0.false in omega (arith, ne))
+pub bring_page-requires-clause-exists : goal.bring_page-requires-clause-exists
+bring_page-requires-clause-exists g c = exists g (goal.at.bring_page-requires-clause-exists g c).After-part_count-count (let ne = c.if-count-eq0.false in omega (arith, ne))
 
 pub line_of-requires-clause-home : goal.line_of-requires-clause-home
 line_of-requires-clause-home g c = (file_name c.args.file (page c.args.offset), c.in_ok-frame.ensures.brings.1)
@@ -54,7 +54,7 @@ returns-in_err-frame-clause-serves g c = λ spaces p fits.
     let w = world_seen c.args.world.now in
     let e = count-is g (goal.at.returns-in_err-frame-clause-serves g c).After-part_count-count in
     let wanted = read-waits w spaces c.args.world.now.pending p c.args.file c.args.offset c.args.asked fits (read-there w.files c.args.file c.args.offset c.args.asked c.requires.served) c.requires.served
-    (world_seen c.bring_frame.new.world) c.bring_frame.new.world.pending c.in_err-frame.field-0.0 (c.in_err-frame.ensures.brings spaces fits) (ap (λ v. v.files) c.bring_frame.ensures.rest)
+    (world_seen c.bring_page.new.world) c.bring_page.new.world.pending c.in_err-frame.field-0.0 (c.in_err-frame.ensures.brings spaces fits) (ap (λ v. v.files) c.bring_page.ensures.rest)
     (let ne = c.if-count-eq0.false in omega (arith, ne, e)) in
     let is = err_from_is_err_and c.from_residual.result c.from_residual.ensures.1 in
     rw (is.1, is.2) wanted
@@ -63,10 +63,10 @@ pub returns-clause-serves : goal.returns-clause-serves
 returns-clause-serves g c = λ spaces p fits.
     let d = (goal.at.returns-clause-serves g c).After-part_count-count in
     let w = world_seen c.args.world.now in
-    let new = world_seen c.bring_frame.new.world in
-    let same = ap world_seen c.bring_frame.ensures.rest in
+    let new = world_seen c.bring_page.new.world in
+    let same = ap world_seen c.bring_page.ensures.rest in
     let some : 1 ≤ c.part_count-count.result = let ne = c.if-count-eq0.false in omega (arith, ne) in
     reads-line w spaces c.args.world.now.pending p c.args.file c.args.offset c.args.asked fits (read-there w.files c.args.file c.args.offset c.args.asked c.requires.served) c.requires.served
-    new c.bring_frame.new.world.pending c.line_of.result (c.in_ok-frame.ensures.brings.0 spaces fits) (ap (λ v. v.files) c.bring_frame.ensures.rest)
+    new c.bring_page.new.world.pending c.line_of.result (c.in_ok-frame.ensures.brings.0 spaces fits) (ap (λ v. v.files) c.bring_page.ensures.rest)
     (λ notes table. c.line_of.ensures (file_name c.args.file (page c.args.offset)) c.in_ok-frame.ensures.brings.1 notes table ∙ ap (λ (k : ℕ). take k (drop (c.args.offset % 4096) (value new.store notes table (file_name c.args.file (page c.args.offset))))) (count-is g d))
     (subst (λ (v : World). IsTrue (page_exists v.files v.anon (file_name c.args.file (page c.args.offset)))) (sym same) (exists g d some))

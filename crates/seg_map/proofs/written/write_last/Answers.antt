@@ -29,7 +29,7 @@ use Rattle.seg_map.proofs.written.write_last.Goals as goal
 
 -- no file changes as its page comes home
 files-stay : (g : Over) (c : After-take_if_listed g) → c.take_if_listed.new.world.files ≡ c.args.world.now.files
-files-stay g c = ap (λ v. v.files) c.take_if_listed.ensures.rest ∙ ap (λ v. v.files) c.bring_frame.ensures.rest
+files-stay g c = ap (λ v. v.files) c.take_if_listed.ensures.rest ∙ ap (λ v. v.files) c.bring_page.ensures.rest
 
 -- the page is home then, on no list
 at-home : (g : Over) (c : After-take_if_listed g) → IsHomeUnlisted (world_seen c.take_if_listed.new.world) (file_name c.args.file (page c.args.offset))
@@ -39,8 +39,8 @@ at-home g c =
 still-fits : (g : Over) (c : After-take_if_listed g) → (spaces : Spaces) → MemoryFits (memory_of (world_seen c.args.world.now) spaces) → MemoryFits (memory_of (world_seen c.take_if_listed.new.world) spaces)
 still-fits g c spaces fits = (c.take_if_listed.ensures.keeps spaces (c.in_ok-frame.ensures.brings.0 spaces fits).first.step.memory).memory
 
-pub bring_frame-requires-clause-exists : goal.bring_frame-requires-clause-exists
-bring_frame-requires-clause-exists g c =
+pub bring_page-requires-clause-exists : goal.bring_page-requires-clause-exists
+bring_page-requires-clause-exists g c =
     let w = world_seen c.args.world.now in
     below-exists w c.args.file (page c.args.offset) (file-apart w.files c.args.file c.requires.fits.1.files (file_calls_law.room w.files c.args.file c.args.end c.requires.served).there) c.requires.below
 
@@ -106,8 +106,8 @@ pub returns-in_err-frame-clause-serves : goal.returns-in_err-frame-clause-serves
 returns-in_err-frame-clause-serves g c = λ spaces p rest fits.
     let w = world_seen c.args.world.now in
     let served = served-as w.files c.args.file c.args.end (c.args.offset + length c.args.line.now) c.requires.end c.requires.served in
-    let wanted = write-waits w spaces c.args.world.now.pending p c.args.file c.args.offset rest c.args.line.now fits c.requires.line served (world_seen c.bring_frame.new.world) c.bring_frame.new.world.pending
-    c.in_err-frame.field-0.0 (c.in_err-frame.ensures.brings spaces fits) (ap (λ v. v.files) c.bring_frame.ensures.rest)
+    let wanted = write-waits w spaces c.args.world.now.pending p c.args.file c.args.offset rest c.args.line.now fits c.requires.line served (world_seen c.bring_page.new.world) c.bring_page.new.world.pending
+    c.in_err-frame.field-0.0 (c.in_err-frame.ensures.brings spaces fits) (ap (λ v. v.files) c.bring_page.ensures.rest)
     (gap-own w spaces c.args.world.now.pending p c.args.file c.args.offset rest c.args.line.now fits c.requires.line served c.requires.below) in
     let is = err_from_is_err_and c.from_residual.result c.from_residual.ensures.1 in
     rw (is.1, is.2) wanted
@@ -130,6 +130,6 @@ returns-clause-serves g c = λ spaces p rest fits.
     let gap : ModifiesOnly (IsGapPage mid c.args.file n) mid long = subst (λ (k : ℕ). ModifiesOnly (IsGapPage mid c.args.file k) mid long) c.requires.end c.make_longer.ensures.modified in
     subst (λ (k : ℕ). ServesReply reply.Done (memory_of w spaces) (memory_of new spaces) c.args.world.now.pending k p (Write c.args.file c.args.offset c.args.line.now rest) (Ok tt))
     (sym (ap (λ v. v.pending) c.put_line.ensures.rest ∙ ap (λ v. v.pending) c.make_longer.ensures.rest ∙ ap (λ v. v.pending) c.take_if_listed.ensures.rest))
-    (writes-last w spaces c.args.world.now.pending p c.args.file c.args.offset rest c.args.line.now fits c.requires.line served (world_seen c.bring_frame.new.world) mid long new c.bring_frame.new.world.pending b
+    (writes-last w spaces c.args.world.now.pending p c.args.file c.args.offset rest c.args.line.now fits c.requires.line served (world_seen c.bring_page.new.world) mid long new c.bring_page.new.world.pending b
     keeps c.take_if_listed.ensures.names c.take_if_listed.ensures.modified (files-stay g d) grows c.make_longer.ensures.names gap (let count = sets.count in let lt = sets.there in omega (arith, count, lt))
     (keeps-same long spaces) (c.put_line.ensures.puts spaces (c.make_longer.ensures.longer spaces keeps.memory e.0 e.1).memory) c.put_line.ensures.names c.put_line.ensures.modified)

@@ -17,8 +17,8 @@ use Rattle.seg_map.proofs.written.write_within.Goals as goal
 there : (files : FilesSeen) (f end : ℕ) → room_refusal files f end ≡ None → f < length files.files
 there files f end served = (file_calls_law.room files f end served).there
 
-pub bring_frame-requires-clause-exists : goal.bring_frame-requires-clause-exists
-bring_frame-requires-clause-exists g c =
+pub bring_page-requires-clause-exists : goal.bring_page-requires-clause-exists
+bring_page-requires-clause-exists g c =
     let w = world_seen c.args.world.now in
     let lt = there w.files c.args.file (c.args.offset + length c.args.line.now) c.requires.served in
     let le = c.requires.within in
@@ -33,7 +33,7 @@ take_if_listed-requires-clause-fits g c = (c.requires.fits.0, (c.in_ok-frame.ens
 
 pub put_line-requires-clause-file : goal.put_line-requires-clause-file
 put_line-requires-clause-file g c =
-    subst (λ (s : FilesSeen). c.args.file < length s.files) (sym (ap (λ v. v.files) c.take_if_listed.ensures.rest ∙ ap (λ v. v.files) c.bring_frame.ensures.rest)) (there c.args.world.now.files c.args.file (c.args.offset + length c.args.line.now) c.requires.served)
+    subst (λ (s : FilesSeen). c.args.file < length s.files) (sym (ap (λ v. v.files) c.take_if_listed.ensures.rest ∙ ap (λ v. v.files) c.bring_page.ensures.rest)) (there c.args.world.now.files c.args.file (c.args.offset + length c.args.line.now) c.requires.served)
 
 pub put_line-requires-clause-home : goal.put_line-requires-clause-home
 put_line-requires-clause-home g c = c.take_if_listed.ensures.stay (file_name c.args.file (page c.args.offset)) ∙ c.in_ok-frame.ensures.brings.1
@@ -45,8 +45,8 @@ pub returns-in_err-frame-clause-serves : goal.returns-in_err-frame-clause-serves
 returns-in_err-frame-clause-serves g c = λ spaces p rest fits.
     let w = world_seen c.args.world.now in
     let le = c.requires.within in
-    let wanted = write-waits w spaces c.args.world.now.pending p c.args.file c.args.offset rest c.args.line.now fits c.requires.line c.requires.served (world_seen c.bring_frame.new.world) c.bring_frame.new.world.pending
-    c.in_err-frame.field-0.0 (c.in_err-frame.ensures.brings spaces fits) (ap (λ v. v.files) c.bring_frame.ensures.rest) (λ n gap. absurd (let more = gap.longer in omega (arith, more, le))) in
+    let wanted = write-waits w spaces c.args.world.now.pending p c.args.file c.args.offset rest c.args.line.now fits c.requires.line c.requires.served (world_seen c.bring_page.new.world) c.bring_page.new.world.pending
+    c.in_err-frame.field-0.0 (c.in_err-frame.ensures.brings spaces fits) (ap (λ v. v.files) c.bring_page.ensures.rest) (λ n gap. absurd (let more = gap.longer in omega (arith, more, le))) in
     let is = err_from_is_err_and c.from_residual.result c.from_residual.ensures.1 in
     rw (is.1, is.2) wanted
 
@@ -57,6 +57,6 @@ returns-clause-serves g c = λ spaces p rest fits.
     let b = c.in_ok-frame.ensures.brings.0 spaces fits in
     let keeps = c.take_if_listed.ensures.keeps spaces b.first.step.memory in
     subst (λ (k : ℕ). ServesReply reply.Done (memory_of w spaces) (memory_of new spaces) c.args.world.now.pending k p (Write c.args.file c.args.offset c.args.line.now rest) (Ok tt)) (sym (ap (λ v. v.pending) c.put_line.ensures.rest ∙ ap (λ v. v.pending) c.take_if_listed.ensures.rest))
-    (writes-within w spaces c.args.world.now.pending p c.args.file c.args.offset rest c.args.line.now fits c.requires.line c.requires.served (world_seen c.bring_frame.new.world) (world_seen c.take_if_listed.new.world) new c.bring_frame.new.world.pending b
-    c.requires.within keeps c.take_if_listed.ensures.names c.take_if_listed.ensures.modified (ap (λ v. v.files) c.take_if_listed.ensures.rest ∙ ap (λ v. v.files) c.bring_frame.ensures.rest)
+    (writes-within w spaces c.args.world.now.pending p c.args.file c.args.offset rest c.args.line.now fits c.requires.line c.requires.served (world_seen c.bring_page.new.world) (world_seen c.take_if_listed.new.world) new c.bring_page.new.world.pending b
+    c.requires.within keeps c.take_if_listed.ensures.names c.take_if_listed.ensures.modified (ap (λ v. v.files) c.take_if_listed.ensures.rest ∙ ap (λ v. v.files) c.bring_page.ensures.rest)
     (c.put_line.ensures.puts spaces keeps.memory) c.put_line.ensures.names c.put_line.ensures.modified)
