@@ -223,7 +223,7 @@ SAYS = {
     'addr_space': 'pieces', 'core_arena': 'frames', 'page_hash': 'names', 'page_lists': 'free, cached', 'page_lock': 'holders, bits',
     'page_clock': 'two hands', 'disk_file': 'a file as disk', 'disk_stripe': 'turn by turn', 'disk_mirror': 'each on both',
     'block_device': 'disks, streams', 'filled': 'equal items', 'hash_chains': 'chains', 'swap_slots': 'least free', 'flat_model': 'what it means',
-    'flat_state': 'kept plainly', 'vnode_files': 'extents', 'vm_types': 'calls, replies', 'zero_objects': 'by number',
+    'flat_state': 'kept plainly', 'vnode_files': 'extents', 'vm_types': 'calls, replies', 'entry_list': 'short entries', 'zero_objects': 'by number',
     'disk_marks': 'what blocks have', 'mark_laws': 'true marks',
     'volume_files': 'mounted files', 'stored_files': 'shown, closed', 'command_line': 'words', 'vm_run': 'one run', 'run_endings': 'ways to end', 'run_input': 'what is asked', 'run_report': 'tables, report',
     'run_outcome': 'how it ended', 'run_kernel': 'start, close', 'plan_runs': 'lines made', 'run_opening': 'ready to run', 'joined_disk': 'two as one', 'volume_disks': 'one or two',
