@@ -30,8 +30,8 @@ fn reply_to(call: &Call) -> Reply {
 /// Adds the entry of a line; a wait has none, nor has a write, which would be done in parts.
 fn add_entry(history: &mut Vec<Entry>, line: &PlanLine) -> Result<(), AllocError> {
     let call = match &line.act {
-        PlanAct::Call(call) => *call,
-        PlanAct::Named { call, .. } => *call,
+        PlanAct::Call(call) => call.call(),
+        PlanAct::Named { call, .. } => call.call(),
         _ => return Ok(()),
     };
     let reply = reply_to(&call);

@@ -212,7 +212,7 @@ fn make_line<R: Wait, D: Disk, K: Calls<D>>(
 {
     match &line.act {
         PlanAct::Call(call) => {
-            kernel.call(rt, caller, call)?;
+            kernel.call(rt, caller, &call.call())?;
             Ok(())
         }
         _ => make_named(rt, kernel, caller, line),
@@ -239,7 +239,7 @@ fn make_named<R: Wait, D: Disk, K: Calls<D>>(
     ensures err { OnErr result (SeesMore caller.old caller.new []) }
 {
     match &line.act {
-        PlanAct::Named { call, .. } => make_parts(rt, kernel, caller, call, &[]),
+        PlanAct::Named { call, .. } => make_parts(rt, kernel, caller, &call.call(), &[]),
         PlanAct::Write {
             file,
             offset,

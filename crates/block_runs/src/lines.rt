@@ -23,7 +23,10 @@ pub fn parted(lines: &[PlanLine], process: u32) -> (&[PlanLine], &[PlanLine])
 fn is_end(act: &PlanAct) -> bool
     ensures { result ≡ is_end act.now }
 {
-    matches!(act, PlanAct::Call(Call::Exit))
+    match act {
+        PlanAct::Call(call) => matches!(call.call(), Call::Exit),
+        _ => false,
+    }
 }
 
 /// Whether the line is the process's end.
@@ -91,7 +94,10 @@ pub fn step_of(act: &PlanAct) -> Step
 {
     match act {
         PlanAct::Wait => Step::Wait,
-        PlanAct::Call(Call::Fork { .. }) => Step::Fork,
+        PlanAct::Call(call) => match call.call() {
+            Call::Fork { .. } => Step::Fork,
+            _ => Step::Line,
+        },
         _ => Step::Line,
     }
 }

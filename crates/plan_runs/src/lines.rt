@@ -78,7 +78,7 @@ fn make_named<D: Disk>(
     ensures err { OnErr result (state.new.history ≡ state.old.history) }
 {
     match &line.act {
-        PlanAct::Named { call, .. } => make_parts(state, frames, call, &[]),
+        PlanAct::Named { call, .. } => make_parts(state, frames, &call.call(), &[]),
         PlanAct::Write {
             file,
             offset,
@@ -115,7 +115,7 @@ fn make_line<D: Disk>(
 {
     match &line.act {
         PlanAct::Call(call) => {
-            make_call(state, frames, call)?;
+            make_call(state, frames, &call.call())?;
             Ok(())
         }
         _ => make_named(state, frames, line),

@@ -26,7 +26,7 @@ fn is_plain_act(act: &PlanAct) -> bool
     ensures { result ≡ alone.is_plain_act act.now }
 {
     match act {
-        PlanAct::Call(Call::Fork { .. }) => false,
+        PlanAct::Call(call) => !matches!(call.call(), Call::Fork { .. }),
         PlanAct::Wait => false,
         _ => true,
     }

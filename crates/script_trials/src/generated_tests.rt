@@ -42,14 +42,14 @@ fn lines_of_ends(alloc: Global, word: &str, more: &str) -> Result<String, AllocE
 
 fn same_act(a: &PlanAct, b: &PlanAct) -> bool {
     match (a, b) {
-        (PlanAct::Call(a), PlanAct::Call(b)) => a == b,
+        (PlanAct::Call(a), PlanAct::Call(b)) => a.call() == b.call(),
         (
             PlanAct::Named { name, call },
             PlanAct::Named {
                 name: other,
                 call: other_call,
             },
-        ) => name.bytes() == other.bytes() && call == other_call,
+        ) => name.bytes() == other.bytes() && call.call() == other_call.call(),
         (
             PlanAct::Write {
                 name,

@@ -155,10 +155,10 @@ fn reads_and_writes_count_their_parts(rt: HostRuntime) -> Result<(), Fail> {
 fn first_file(plan: &Plan) -> u32 {
     match plan.lines().first() {
         Some(line) => match &line.act {
-            PlanAct::Named {
-                call: Call::Truncate { file, .. },
-                ..
-            } => *file,
+            PlanAct::Named { call, .. } => match call.call() {
+                Call::Truncate { file, .. } => file,
+                _ => 99,
+            },
             _ => 99,
         },
         None => 99,

@@ -23,8 +23,8 @@ fn word_of_act(act: &PlanAct) -> &'static [u8]
     ensures { result.now ≡ report.act_word act.now }
 {
     match act {
-        PlanAct::Call(call) => word_of_call(call),
-        PlanAct::Named { call, .. } => word_of_call(call),
+        PlanAct::Call(call) => word_of_call(&call.call()),
+        PlanAct::Named { call, .. } => word_of_call(&call.call()),
         PlanAct::Write { .. } => b"write",
         PlanAct::Wait => b"wait",
     }
@@ -40,14 +40,20 @@ fn is_load(act: &PlanAct) -> bool
     ensures word { IsTrue result → report.act_word act.now ≡ codes "load" }
     ensures call { IsTrue result → report.is_wait act.now ≡ false }
 {
-    matches!(act, PlanAct::Call(Call::Load { .. }))
+    match act {
+        PlanAct::Call(call) => matches!(call.call(), Call::Load { .. }),
+        _ => false,
+    }
 }
 
 fn is_store(act: &PlanAct) -> bool
     ensures word { IsTrue result → report.act_word act.now ≡ codes "store" }
     ensures call { IsTrue result → report.is_wait act.now ≡ false }
 {
-    matches!(act, PlanAct::Call(Call::Store { .. }))
+    match act {
+        PlanAct::Call(call) => matches!(call.call(), Call::Store { .. }),
+        _ => false,
+    }
 }
 
 // How many of the entries belong to the call that the first one begins; None where none of them ends

@@ -9,6 +9,7 @@ pub mod GivenDisks
 pub mod Growing
 pub mod Lines
 pub mod PlanSeen
+pub mod PlanCalls
 pub mod Plans
 pub mod Printed
 pub mod Processes

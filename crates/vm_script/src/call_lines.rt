@@ -7,7 +7,8 @@ ghost use Rattle.vm_script.specs.Statements as statements;
 use crate::fault::{ReadError, ScriptKind};
 use crate::fields::{bytes, kind, name, need, number, place, prot, size};
 use crate::plan::PlanAct;
-use flat_model::{Call, Kind, Object, Place, Prot};
+use crate::plan_call::{KeptCall, PlanCall};
+use flat_model::{Kind, Object, Place, Prot};
 use std::alloc::Global;
 
 /// The number of a file of which only the name is known.
@@ -22,7 +23,9 @@ pub fn load(args: &[&[u8]]) -> Result<PlanAct, ReadError>
     };
     let addr = number(a)?;
     let size = size(s)?;
-    Ok(PlanAct::Call(Call::Load { addr, size }))
+    Ok(PlanAct::Call(PlanCall {
+        kept: KeptCall::Load { addr, size },
+    }))
 }
 
 /// Whether the value fits the word.
@@ -51,7 +54,9 @@ pub fn store(args: &[&[u8]]) -> Result<PlanAct, ReadError>
     if !fits_word(size, value) {
         return Err(ReadError::Fault(ScriptKind::Value));
     }
-    Ok(PlanAct::Call(Call::Store { addr, size, value }))
+    Ok(PlanAct::Call(PlanCall {
+        kept: KeptCall::Store { addr, size, value },
+    }))
 }
 
 #[tactic(auto, unfolding(crate::specs::Statements::map_object))]
@@ -70,19 +75,21 @@ fn map_object(
     if shown == b"zero".as_slice() {
         let offset = number(o)?;
         let object = Object::NewZero;
-        return Ok(PlanAct::Call(Call::Map {
-            place,
-            length,
-            prot,
-            kind,
-            object,
-            offset,
+        return Ok(PlanAct::Call(PlanCall {
+            kept: KeptCall::Map {
+                place,
+                length,
+                prot,
+                kind,
+                object,
+                offset,
+            },
         }));
     }
     let name = name(alloc, shown)?;
     let offset = number(o)?;
     let object = Object::File(UNKNOWN_FILE);
-    let call = Call::Map {
+    let kept = KeptCall::Map {
         place,
         length,
         prot,
@@ -90,7 +97,10 @@ fn map_object(
         object,
         offset,
     };
-    Ok(PlanAct::Named { name, call })
+    Ok(PlanAct::Named {
+        name,
+        call: PlanCall { kept },
+    })
 }
 
 #[tactic(auto, unfolding(crate::specs::Statements::map_of))]
@@ -131,7 +141,9 @@ pub fn unmap(args: &[&[u8]]) -> Result<PlanAct, ReadError>
     };
     let addr = number(a)?;
     let length = number(l)?;
-    Ok(PlanAct::Call(Call::Unmap { addr, length }))
+    Ok(PlanAct::Call(PlanCall {
+        kept: KeptCall::Unmap { addr, length },
+    }))
 }
 
 #[tactic(auto, unfolding(crate::specs::Statements::sync_line))]
@@ -143,7 +155,9 @@ pub fn sync(args: &[&[u8]]) -> Result<PlanAct, ReadError>
     };
     let addr = number(a)?;
     let length = number(l)?;
-    Ok(PlanAct::Call(Call::Sync { addr, length }))
+    Ok(PlanAct::Call(PlanCall {
+        kept: KeptCall::Sync { addr, length },
+    }))
 }
 
 #[tactic(auto, unfolding(crate::specs::Statements::protect_of))]
@@ -153,7 +167,9 @@ fn protect_of(a: &[u8], l: &[u8], p: &[u8]) -> Result<PlanAct, ReadError>
     let addr = number(a)?;
     let length = number(l)?;
     let prot = prot(p)?;
-    Ok(PlanAct::Call(Call::Protect { addr, length, prot }))
+    Ok(PlanAct::Call(PlanCall {
+        kept: KeptCall::Protect { addr, length, prot },
+    }))
 }
 
 #[tactic(auto, unfolding(crate::specs::Statements::protect_line))]
@@ -174,12 +190,15 @@ fn read_of(alloc: Global, n: &[u8], o: &[u8], l: &[u8]) -> Result<PlanAct, ReadE
     let offset = number(o)?;
     let length = number(l)?;
     need(ScriptKind::Value, 1 <= length && length <= 65_536)?;
-    let call = Call::Read {
+    let kept = KeptCall::Read {
         file: UNKNOWN_FILE,
         offset,
         length,
     };
-    Ok(PlanAct::Named { name, call })
+    Ok(PlanAct::Named {
+        name,
+        call: PlanCall { kept },
+    })
 }
 
 #[tactic(auto, unfolding(crate::specs::Statements::read_call_line))]
@@ -226,9 +245,12 @@ pub fn truncate(alloc: Global, args: &[&[u8]]) -> Result<PlanAct, ReadError>
     };
     let name = name(alloc, n)?;
     let length = number(l)?;
-    let call = Call::Truncate {
+    let kept = KeptCall::Truncate {
         file: UNKNOWN_FILE,
         length,
     };
-    Ok(PlanAct::Named { name, call })
+    Ok(PlanAct::Named {
+        name,
+        call: PlanCall { kept },
+    })
 }

@@ -41,8 +41,8 @@ pub fn parts(line: &PlanLine) -> u32
     ensures { result ≡ parts line.now.act }
 {
     match &line.act {
-        PlanAct::Call(call) => call_parts(call),
-        PlanAct::Named { call, .. } => call_parts(call),
+        PlanAct::Call(call) => call_parts(&call.call()),
+        PlanAct::Named { call, .. } => call_parts(&call.call()),
         PlanAct::Write { offset, bytes, .. } => line_count(*offset, bytes.bytes().len() as u64),
         PlanAct::Wait => 0,
     }

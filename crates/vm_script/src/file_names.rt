@@ -1,10 +1,12 @@
 //! The names of a plan's lines as file numbers.
 ghost use Rattle.std.specs.Prelude.{◌≡◌, ◌<◌, ◌^◌, map, length};
 ghost use Rattle.vm_script.specs.FileNames as by_name;
+ghost use Rattle.vm_script.specs.PlanCalls.{call_kept};
 
 use crate::byte_text::ByteText;
 use crate::plan::{PlanAct, PlanLine};
-use flat_model::{Call, Object};
+use crate::plan_call::{KeptCall, PlanCall};
+use flat_model::Object;
 
 // The first place of the name, or the old number where it isn't there.
 fn file_number(names: &[ByteText], name: &ByteText, old: u32) -> u32
@@ -23,12 +25,12 @@ fn file_number(names: &[ByteText], name: &ByteText, old: u32) -> u32
     old
 }
 
-fn call_with_file(names: &[ByteText], name: &ByteText, call: &Call) -> Call
+fn kept_with_file(names: &[ByteText], name: &ByteText, kept: KeptCall) -> KeptCall
     requires few { length names.now < 2 ^ 32 }
-    ensures { result ≡ by_name.call_with_file names.now name.now call.now }
+    ensures { call_kept result ≡ by_name.call_with_file names.now name.now (call_kept kept) }
 {
-    match *call {
-        Call::Map {
+    match kept {
+        KeptCall::Map {
             place,
             length,
             prot,
@@ -37,7 +39,7 @@ fn call_with_file(names: &[ByteText], name: &ByteText, call: &Call) -> Call
             offset,
         } => {
             let object = Object::File(file_number(names, name, file));
-            Call::Map {
+            KeptCall::Map {
                 place,
                 length,
                 prot,
@@ -46,19 +48,19 @@ fn call_with_file(names: &[ByteText], name: &ByteText, call: &Call) -> Call
                 offset,
             }
         }
-        Call::Read {
+        KeptCall::Read {
             file,
             offset,
             length,
         } => {
-            Call::Read {
+            KeptCall::Read {
                 file: file_number(names, name, file),
                 offset,
                 length,
             }
         }
-        Call::Truncate { file, length } => {
-            Call::Truncate {
+        KeptCall::Truncate { file, length } => {
+            KeptCall::Truncate {
                 file: file_number(names, name, file),
                 length,
             }
@@ -67,12 +69,19 @@ fn call_with_file(names: &[ByteText], name: &ByteText, call: &Call) -> Call
     }
 }
 
+fn set_call_file(names: &[ByteText], name: &ByteText, call: &mut PlanCall)
+    requires few { length names.now < 2 ^ 32 }
+    ensures { call.new ≡ by_name.call_with_file names.now name.now call.old }
+{
+    call.kept = kept_with_file(names, name, call.kept);
+}
+
 fn set_file(names: &[ByteText], act: &mut PlanAct)
     requires few { length names.now < 2 ^ 32 }
     ensures { act.new ≡ by_name.act_with_file names.now act.old }
 {
     match act {
-        PlanAct::Named { name, call } => *call = call_with_file(names, name, call),
+        PlanAct::Named { name, call } => set_call_file(names, name, call),
         PlanAct::Write { name, file, .. } => *file = file_number(names, name, *file),
         _ => {}
     }

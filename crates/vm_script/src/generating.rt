@@ -8,9 +8,10 @@ use crate::byte_text::ByteText;
 use crate::call_lines::UNKNOWN_FILE;
 use crate::open_plan::Growing;
 use crate::plan::{Plan, PlanAct, SetupAct};
+use crate::plan_call::{KeptCall, PlanCall};
 use crate::statement::Statement;
 use bitflags::Flags;
-use flat_model::{Call, Kind, Object, Place, Prot};
+use flat_model::{Kind, Object, Place, Prot};
 use std::alloc::{AllocError, Global};
 
 // The address of a word, which goes through 32 pages.
@@ -37,12 +38,12 @@ fn add_word_stores(growing: &mut Growing, line: u32, n: u32, i: u32) -> Result<(
         (growing.new ≡ with_statements growing.old line (generated.word_stores n i 1000)) }
 {
     for k in 0..1000 {
-        let call = Call::Store {
+        let kept = KeptCall::Store {
             addr: word_address(n, k),
             size: 4,
             value: k + i,
         };
-        growing.add_line(line + k + 1, PlanAct::Call(call))?;
+        growing.add_line(line + k + 1, PlanAct::Call(PlanCall { kept }))?;
     }
     Ok(())
 }
@@ -53,11 +54,11 @@ fn add_word_loads(growing: &mut Growing, line: u32, n: u32) -> Result<(), AllocE
         (growing.new ≡ with_statements growing.old line (generated.word_loads n 1000)) }
 {
     for k in 0..1000 {
-        let call = Call::Load {
+        let kept = KeptCall::Load {
             addr: word_address(n, k),
             size: 4,
         };
-        growing.add_line(line + k + 1, PlanAct::Call(call))?;
+        growing.add_line(line + k + 1, PlanAct::Call(PlanCall { kept }))?;
     }
     Ok(())
 }
@@ -68,12 +69,12 @@ fn add_end_stores(growing: &mut Growing, line: u32) -> Result<(), AllocError>
         (growing.new ≡ with_statements growing.old line (generated.end_stores 32)) }
 {
     for j in 0..32 {
-        let call = Call::Store {
+        let kept = KeptCall::Store {
             addr: page_end(j),
             size: 4,
             value: 1,
         };
-        growing.add_line(line + j + 1, PlanAct::Call(call))?;
+        growing.add_line(line + j + 1, PlanAct::Call(PlanCall { kept }))?;
     }
     Ok(())
 }
@@ -84,11 +85,11 @@ fn add_end_loads(growing: &mut Growing, line: u32) -> Result<(), AllocError>
         (growing.new ≡ with_statements growing.old line (generated.end_loads 32)) }
 {
     for j in 0..32 {
-        let call = Call::Load {
+        let kept = KeptCall::Load {
             addr: page_end(j),
             size: 4,
         };
-        growing.add_line(line + j + 1, PlanAct::Call(call))?;
+        growing.add_line(line + j + 1, PlanAct::Call(PlanCall { kept }))?;
     }
     Ok(())
 }
@@ -109,7 +110,7 @@ fn add_head(alloc: Global, growing: &mut Growing, line: u32) -> Result<(), Alloc
     let (prot, offset) = (read_write(), 0);
     let place = Place::At(1_048_576);
     let (length, kind, object) = (131_072, Kind::Private, Object::NewZero);
-    let call = Call::Map {
+    let kept = KeptCall::Map {
         place,
         length,
         prot,
@@ -117,10 +118,10 @@ fn add_head(alloc: Global, growing: &mut Growing, line: u32) -> Result<(), Alloc
         object,
         offset,
     };
-    growing.add_line(line + 1 + 1, PlanAct::Call(call))?;
+    growing.add_line(line + 1 + 1, PlanAct::Call(PlanCall { kept }))?;
     let place = Place::At(4_194_304);
     let (length, kind, object) = (32_768, Kind::Shared, Object::File(UNKNOWN_FILE));
-    let call = Call::Map {
+    let kept = KeptCall::Map {
         place,
         length,
         prot,
@@ -129,7 +130,13 @@ fn add_head(alloc: Global, growing: &mut Growing, line: u32) -> Result<(), Alloc
         offset,
     };
     let name = ByteText::new(alloc, b"f")?;
-    growing.add_line(line + 1 + 1 + 1, PlanAct::Named { name, call })
+    growing.add_line(
+        line + 1 + 1 + 1,
+        PlanAct::Named {
+            name,
+            call: PlanCall { kept },
+        },
+    )
 }
 
 fn add_child(growing: &mut Growing, line: u32) -> Result<(), AllocError>
@@ -171,15 +178,19 @@ fn add_tail(
     let addr = 4_194_304 + 4096 * i;
     growing.add_line(
         line + 1 + 1,
-        PlanAct::Call(Call::Store {
-            addr,
-            size: 4,
-            value: n,
+        PlanAct::Call(PlanCall {
+            kept: KeptCall::Store {
+                addr,
+                size: 4,
+                value: n,
+            },
         }),
     )?;
     growing.add_line(
         line + 1 + 1 + 1,
-        PlanAct::Call(Call::Load { addr, size: 4 }),
+        PlanAct::Call(PlanCall {
+            kept: KeptCall::Load { addr, size: 4 },
+        }),
     )?;
     growing.end(line + 1 + 1 + 1 + 1)
 }

@@ -13,6 +13,7 @@ mod number;
 mod open_plan;
 mod parsing;
 mod plan;
+mod plan_call;
 mod quick;
 mod rules;
 mod setup_lines;
@@ -35,4 +36,5 @@ pub use laws::{
 pub use number::is_file_name;
 pub use parsing::{MOST_BYTES, parse};
 pub use plan::{Plan, PlanAct, PlanLine, SetupAct, SetupLine};
+pub use plan_call::PlanCall;
 pub use rules::{Amounts, amounts_of, broken_rule};

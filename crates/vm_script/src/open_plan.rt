@@ -3,8 +3,8 @@ ghost use Rattle.std.specs.Prelude.{◌≡◌, ◌+◌, ◌<◌, ◌^◌, ◌||�
 ghost use Rattle.vm_script.specs.Plans.{enclosing_block, with_line, with_new_block, with_statement, spot_of, empty_plan, plan_seen, gives_frames, gives_swap, gives_translations};
 
 use crate::plan::{Plan, PlanAct, PlanLine, SetupAct, SetupLine};
+use crate::plan_call::{KeptCall, PlanCall};
 use crate::statement::{LineSpot, Statement};
-use flat_model::Call;
 use std::alloc::{AllocError, Global};
 use std::marker::Model;
 
@@ -144,7 +144,12 @@ impl Growing {
     {
         let parent = self.inside;
         let child = self.parents.len() as u32 + 1;
-        self.add_line(line, PlanAct::Call(Call::Fork { child }))?;
+        self.add_line(
+            line,
+            PlanAct::Call(PlanCall {
+                kept: KeptCall::Fork { child },
+            }),
+        )?;
         self.begin(parent)
     }
 
@@ -152,7 +157,12 @@ impl Growing {
     pub fn end(&mut self, line: u32) -> Result<(), AllocError>
         ensures new { OnOk result (self.new ≡ with_statement self.old line Statement.End) }
     {
-        self.add_line(line, PlanAct::Call(Call::Exit))?;
+        self.add_line(
+            line,
+            PlanAct::Call(PlanCall {
+                kept: KeptCall::Exit,
+            }),
+        )?;
         self.inside = enclosing_block(&self.parents, self.inside);
         Ok(())
     }

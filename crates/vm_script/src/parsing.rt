@@ -6,10 +6,10 @@ ghost use Rattle.vm_script.specs.ReadLines.{ReadsLine, FailsLine};
 use crate::fault::{ReadError, ScriptFault, ScriptKind};
 use crate::open_plan::Growing;
 use crate::plan::{Plan, PlanAct};
+use crate::plan_call::{KeptCall, PlanCall};
 use crate::quick::{quick_load, quick_store};
 use crate::splitting::split_line;
 use crate::statements::statement_of;
-use flat_model::Call;
 use std::alloc::{AllocError, Global};
 
 /// The most bytes that a script may have.
@@ -28,11 +28,21 @@ fn quick_line<'a>(
     ensures none { IfOk result (λ read. IfNone read (growing.new ≡ growing.old)) }
 {
     if let Some((addr, size, rest)) = quick_load(text) {
-        growing.add_line(line + 1, PlanAct::Call(Call::Load { addr, size }))?;
+        growing.add_line(
+            line + 1,
+            PlanAct::Call(PlanCall {
+                kept: KeptCall::Load { addr, size },
+            }),
+        )?;
         return Ok(Some(rest));
     }
     if let Some((addr, size, value, rest)) = quick_store(text) {
-        growing.add_line(line + 1, PlanAct::Call(Call::Store { addr, size, value }))?;
+        growing.add_line(
+            line + 1,
+            PlanAct::Call(PlanCall {
+                kept: KeptCall::Store { addr, size, value },
+            }),
+        )?;
         return Ok(Some(rest));
     }
     Ok(None)

@@ -5,7 +5,7 @@ ghost use Rattle.vm_script.specs.Processes.{kernel_parents};
 
 use crate::byte_text::ByteText;
 use crate::file_names::set_line_file;
-use flat_model::Call;
+use crate::plan_call::PlanCall;
 use std::marker::Model;
 
 /// What a set-up line gives.
@@ -54,11 +54,11 @@ pub struct SetupLine {
 #[derive(Drop)]
 pub enum PlanAct {
     /// A call that names no file.
-    Call(Call),
+    Call(PlanCall),
     /// A call of the file of this name.
     Named {
         name: ByteText,
-        call: Call,
+        call: PlanCall,
     },
     /// A write of these bytes to the file of this name, done in parts.
     Write {

@@ -1,29 +1,34 @@
-use Rattle.std.proofs.Common.{[], inr, sym, subst}
+use Rattle.std.proofs.Common.{◌≡◌, ◌∙◌, [], ap, inr, sym, subst}
 use Rattle.vm_script.specs.flat_model.Told.{SpelledLine}
 use Rattle.vm_core.specs.Calls.{TakesMemory}
+use Rattle.vm_script.specs.vm_types.declared.call.Call.{Call}
+use Rattle.vm_script.specs.declared.plan.PlanAct.TheVariants as act
 use Rattle.block_runs.specs.Lines.{LineTakesMemory}
 use Rattle.block_runs.proofs.LineCalls.{OneCall, err_kept, line_made, line_may, ok_made, one_call, one_cut, write_sized}
 use Rattle.block_runs.proofs.blocks.make_named.Given.{Over}
 use Rattle.block_runs.proofs.blocks.make_named.Goals as goal
-use Rattle.block_runs.proofs.blocks.make_named.Goals.{In-Named, After-cut_write-first}
+use Rattle.block_runs.proofs.blocks.make_named.Goals.{After-call, After-cut_write-first}
 
--- One that names a file
-named : (g : Over) (c : In-Named g) → OneCall c.args.line.now.act (record { call = c.in-Named.call; bytes = [] })
-named g c = one_call c.args.line.now.act c.in-Named.call (inr (c.in-Named.name, c.in-Named.is)) c.requires.line c.requires.may.fit
+-- One that names a file, with its call
+spelled : (g : Over) (c : After-call g) → c.args.line.now.act ≡ act.Named c.in-Named.name c.call.result
+spelled g c = c.in-Named.is ∙ ap (λ (x : Call). act.Named c.in-Named.name x) (sym c.call.ensures)
+
+named : (g : Over) (c : After-call g) → OneCall c.args.line.now.act (record { call = c.call.result; bytes = [] })
+named g c = one_call c.args.line.now.act c.call.result (inr (c.in-Named.name, spelled g c)) c.requires.line c.requires.may.fit
 
 pub make_parts-requires-clause-may : goal.make_parts-requires-clause-may
 make_parts-requires-clause-may g c =
-    line_may (g.K.Calls.kernel c.args.kernel.now) c.args.caller.now c.args.line.now (record { call = c.in-Named.call; bytes = [] }) (named g (goal.at.make_parts-requires-clause-may g c).In-Named) c.requires.may
+    line_may (g.K.Calls.kernel c.args.kernel.now) c.args.caller.now c.args.line.now (record { call = c.call.result; bytes = [] }) (named g (goal.at.make_parts-requires-clause-may g c).After-call) c.requires.may
 
 pub returns-in-Named-clause-made : goal.returns-in-Named-clause-made
 returns-in-Named-clause-made g c =
     ok_made _ _ c.make_parts.result
-    (line_made (g.K.Calls.kernel c.args.kernel.now) c.args.caller.now c.args.line.now (record { call = c.in-Named.call; bytes = [] }) (named g (goal.at.returns-in-Named-clause-made g c).In-Named) c.make_parts.new.caller)
+    (line_made (g.K.Calls.kernel c.args.kernel.now) c.args.caller.now c.args.line.now (record { call = c.call.result; bytes = [] }) (named g (goal.at.returns-in-Named-clause-made g c).After-call) c.make_parts.new.caller)
     c.make_parts.ensures.made
 
 pub returns-in-Named-clause-takes : goal.returns-in-Named-clause-takes
 returns-in-Named-clause-takes g c =
-    err_kept _ _ c.make_parts.result (subst LineTakesMemory (sym c.in-Named.is)) c.make_parts.ensures.takes
+    err_kept _ _ c.make_parts.result (subst LineTakesMemory (sym (spelled g (goal.at.returns-in-Named-clause-takes g c).After-call))) c.make_parts.ensures.takes
 
 -- A write
 pub cut_write-first-requires-clause-some : goal.cut_write-first-requires-clause-some

@@ -1,33 +1,38 @@
-use Rattle.std.proofs.Common.{[], inr, sym, subst}
+use Rattle.std.proofs.Common.{◌≡◌, ◌∙◌, [], ap, inr, sym, subst}
 use Rattle.volume_files.specs.flat_model.Told.{SpelledLine}
 use Rattle.vm_core.specs.Calls.{TakesMemory}
+use Rattle.volume_files.specs.vm_types.declared.call.Call.{Call}
+use Rattle.volume_files.specs.vm_script.declared.plan.PlanAct.TheVariants as act
 use Rattle.block_runs.specs.Lines.{LineTakesMemory}
 use Rattle.block_runs.proofs.LineCalls.{OneCall, err_kept, line_made, line_may, ok_made, one_call, one_cut, write_sized}
 use Rattle.plan_runs.specs.Lines.{alone_caller, alone_kernel}
 use Rattle.plan_runs.proofs.lines.make_named.Given.{Over}
 use Rattle.plan_runs.proofs.lines.make_named.Goals as goal
-use Rattle.plan_runs.proofs.lines.make_named.Goals.{In-Named, After-cut_write-first}
+use Rattle.plan_runs.proofs.lines.make_named.Goals.{After-call, After-cut_write-first}
 
--- One that names a file
-named : (g : Over) (c : In-Named g) → OneCall c.args.line.now.act (record { call = c.in-Named.call; bytes = [] })
-named g c = one_call c.args.line.now.act c.in-Named.call (inr (c.in-Named.name, c.in-Named.is)) c.requires.line c.requires.may.fit
+-- One that names a file, with its call
+spelled : (g : Over) (c : After-call g) → c.args.line.now.act ≡ act.Named c.in-Named.name c.call.result
+spelled g c = c.in-Named.is ∙ ap (λ (x : Call). act.Named c.in-Named.name x) (sym c.call.ensures)
+
+named : (g : Over) (c : After-call g) → OneCall c.args.line.now.act (record { call = c.call.result; bytes = [] })
+named g c = one_call c.args.line.now.act c.call.result (inr (c.in-Named.name, spelled g c)) c.requires.line c.requires.may.fit
 
 pub make_parts-requires-clause-may : goal.make_parts-requires-clause-may
 make_parts-requires-clause-may g c =
     let s = c.args.state.now in
-    line_may (alone_kernel s) (alone_caller s s.history) c.args.line.now (record { call = c.in-Named.call; bytes = [] }) (named g (goal.at.make_parts-requires-clause-may g c).In-Named) c.requires.may
+    line_may (alone_kernel s) (alone_caller s s.history) c.args.line.now (record { call = c.call.result; bytes = [] }) (named g (goal.at.make_parts-requires-clause-may g c).After-call) c.requires.may
 
 pub returns-in-Named-clause-made : goal.returns-in-Named-clause-made
 returns-in-Named-clause-made g c =
     let s = c.args.state.now in
     ok_made _ _ c.make_parts.result
-    (line_made (alone_kernel s) (alone_caller s s.history) c.args.line.now (record { call = c.in-Named.call; bytes = [] }) (named g (goal.at.returns-in-Named-clause-made g c).In-Named)
+    (line_made (alone_kernel s) (alone_caller s s.history) c.args.line.now (record { call = c.call.result; bytes = [] }) (named g (goal.at.returns-in-Named-clause-made g c).After-call)
     (alone_caller s c.make_parts.new.state.history))
     c.make_parts.ensures.made
 
 pub returns-in-Named-clause-takes : goal.returns-in-Named-clause-takes
 returns-in-Named-clause-takes g c =
-    err_kept _ _ c.make_parts.result (subst LineTakesMemory (sym c.in-Named.is)) c.make_parts.ensures.takes
+    err_kept _ _ c.make_parts.result (subst LineTakesMemory (sym (spelled g (goal.at.returns-in-Named-clause-takes g c).After-call))) c.make_parts.ensures.takes
 
 -- A write
 pub cut_write-first-requires-clause-some : goal.cut_write-first-requires-clause-some
