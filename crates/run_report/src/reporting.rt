@@ -152,18 +152,14 @@ fn write_asked<K: Sink>(
     write_sections(plan, history, text, out)
 }
 
-// Room for what is written at once: 20 bytes an entry, some more than a load or a store prints, up to
-// 2.5 MiB. A longer text takes more as it grows.
-fn room_for_text(history: &[Entry]) -> usize {
-    20 * history.len().min(2 * LONG)
-}
+// Room for what is written at once, where no line is long and no trace is asked for. A longer text takes more as it grows.
+const ROOM: usize = LONG + 256;
 
 /// Writes the entries, where a trace is asked for, and the process sections, or the summary of a
 /// generated script.
 ///
 /// Memory: for the entries of a trace, which are written at once, or for some 64 KiB more than the
-/// longest line has, and what `SectionsLeft` keeps. Lines of one part each, as those of loads and
-/// stores, are written behind the next call of several parts or at the end of their section.
+/// longest line has, and what `SectionsLeft` keeps.
 pub fn write_middle<K: Sink>(
     alloc: Global,
     options: &Options,
@@ -182,7 +178,7 @@ pub fn write_middle<K: Sink>(
     ensures later { (K.seen out.old).faults ≤ (K.seen out.new).faults }
     ensures steady { UnlessEnded result ((K.seen out.new).faults ≡ (K.seen out.old).faults) }
 {
-    let Ok(mut text) = Vec::with_capacity(alloc, room_for_text(history)) else {
+    let Ok(mut text) = Vec::with_capacity(alloc, ROOM) else {
         return Err(Ending::Memory);
     };
     if begin_middle(options, history, &mut text).is_err() {

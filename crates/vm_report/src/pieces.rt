@@ -77,7 +77,7 @@ impl<'a> SectionsLeft<'a> {
     }
 
     /// Adds the next piece, and answers whether there was one: a heading, or lines of a section, to
-    /// its end or up to a call of several parts with which the text is at least 65,536 bytes long.
+    /// its end or up to the first line with which the text is at least 65,536 bytes long.
     pub fn push_next(&mut self, out: &mut Vec<u8>) -> Result<bool, AllocError>
         ensures text { OnOk result
             (out.new.items ++ self.new.text ≡ out.old.items ++ self.old.text) }

@@ -89,13 +89,6 @@ fn push_line(out: &mut Vec<u8>, line: &PlanLine, entries: &[Entry]) -> Result<()
     end_line(out)
 }
 
-// What a line that was added leaves of its process's entries, and whether it made several of them.
-#[derive(Clone, Copy)]
-struct Added<'a> {
-    left: Cursor<'a>,
-    several: bool,
-}
-
 // Adds a line's own line, which made a call, and passes the entries of that. They are copied only
 // where another process made an entry between them.
 fn push_call<'a>(
@@ -104,7 +97,7 @@ fn push_call<'a>(
     history: &'a [Entry],
     runs: &Runs,
     at: Cursor<'a>,
-) -> Result<Added<'a>, AllocError>
+) -> Result<Cursor<'a>, AllocError>
     requires within { AreWithin (length history.now) runs.now }
     requires whole { at.front.now ≡ [] → entries_left history.now runs.now at ≡ [] }
     requires few { length (entries_left history.now runs.now at) < 2 ^ 32 }
@@ -113,27 +106,21 @@ fn push_call<'a>(
     ensures text { OnOk result (out.new.items ≡ out.old.items ++ report.line_text line.now
         (take (report.call_length (entries_left history.now runs.now at.entry))
         (entries_left history.now runs.now at.entry))) }
-    ensures left { IfOk result (λ added. entries_left history.now runs.now added.left
+    ensures left { IfOk result (λ next. entries_left history.now runs.now next
         ≡ drop (report.call_length (entries_left history.now runs.now at.entry))
         (entries_left history.now runs.now at.entry)) }
-    ensures whole { IfOk result (λ added.
-        added.left.front.now ≡ [] → entries_left history.now runs.now added.left ≡ []) }
+    ensures whole { IfOk result (λ next.
+        next.front.now ≡ [] → entries_left history.now runs.now next ≡ []) }
 {
     if let Some(count) = call_length(at.front) {
         let (own, _) = at.front.split_at(count);
         push_line(out, line, own)?;
-        return Ok(Added {
-            left: pass(history, runs, at, count),
-            several: 1 < count,
-        });
+        return Ok(pass(history, runs, at, count));
     }
     let mut call = Vec::new(*out.allocator());
     let left = take_call(history, runs, at, &mut call)?;
     push_line(out, line, &call)?;
-    Ok(Added {
-        left,
-        several: true,
-    })
+    Ok(left)
 }
 
 // Adds what a line prints that made the first of these entries; a wait made none, and prints
@@ -144,7 +131,7 @@ fn push_next<'a>(
     history: &'a [Entry],
     runs: &Runs,
     at: Cursor<'a>,
-) -> Result<Added<'a>, AllocError>
+) -> Result<Cursor<'a>, AllocError>
     requires within { AreWithin (length history.now) runs.now }
     requires whole { at.front.now ≡ [] → entries_left history.now runs.now at ≡ [] }
     requires few { length (entries_left history.now runs.now at) < 2 ^ 32 }
@@ -153,46 +140,36 @@ fn push_next<'a>(
     ensures text { OnOk result (out.new.items ≡ out.old.items ++ report.own_text line.now
         (take (report.entries_made line.now (entries_left history.now runs.now at.entry))
         (entries_left history.now runs.now at.entry))) }
-    ensures left { IfOk result (λ added. entries_left history.now runs.now added.left
+    ensures left { IfOk result (λ next. entries_left history.now runs.now next
         ≡ drop (report.entries_made line.now (entries_left history.now runs.now at.entry))
         (entries_left history.now runs.now at.entry)) }
-    ensures whole { IfOk result (λ added.
-        added.left.front.now ≡ [] → entries_left history.now runs.now added.left ≡ []) }
+    ensures whole { IfOk result (λ next.
+        next.front.now ≡ [] → entries_left history.now runs.now next ≡ []) }
 {
     if let [entry, ..] = at.front {
         match (&entry.call, &entry.reply) {
             (Call::Load { size, .. }, Reply::Word(value)) if is_load(&line.act) => {
                 push_loaded(out, line.line, *size, *value)?;
-                return Ok(Added {
-                    left: pass(history, runs, at, 1),
-                    several: false,
-                });
+                return Ok(pass(history, runs, at, 1));
             }
             (Call::Store { .. }, Reply::Done) if is_store(&line.act) => {
                 push_stored(out, line.line)?;
-                return Ok(Added {
-                    left: pass(history, runs, at, 1),
-                    several: false,
-                });
+                return Ok(pass(history, runs, at, 1));
             }
             _ => {}
         }
     }
     if is_wait(&line.act) {
-        return Ok(Added {
-            left: at,
-            several: false,
-        });
+        return Ok(at);
     }
     push_call(out, line, history, runs, at)
 }
 
-// Where a piece of a report ends: behind the first call of several parts with which it is this long.
+// Where a piece of a report ends: behind the first line with which it is this long.
 const LONG: usize = 65_536;
 
 /// Adds what the next lines of a block print, from a line and a place in the entries of its process
-/// on, and answers where it stopped. It stops behind a call of several parts, the line of which may
-/// be long.
+/// on, and answers where it stopped: at their end, or where the text is long.
 pub fn push_next_lines<'a>(
     out: &mut Vec<u8>,
     lines: &[&PlanLine],
@@ -219,10 +196,10 @@ pub fn push_next_lines<'a>(
     let mut at = line;
     let mut left = place;
     while at < lines.len() {
-        let added = push_next(out, lines[at], history, runs, left)?;
+        let next = push_next(out, lines[at], history, runs, left)?;
         at += 1;
-        left = added.left;
-        if added.several && LONG <= out.len() {
+        left = next;
+        if LONG <= out.len() {
             return Ok((at, left));
         }
     }

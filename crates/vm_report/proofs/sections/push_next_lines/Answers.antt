@@ -7,22 +7,22 @@ use Rattle.vm_report.specs.Runs.{entries_left}
 use Rattle.vm_report.proofs.Blocks.{lines_more, seen_at}
 use Rattle.vm_report.proofs.RunEntries.{left-few, left-on, left-same, left-well}
 use Rattle.vm_report.proofs.sections.push_next_lines.Goals as goal
-use Rattle.vm_report.proofs.sections.push_next_lines.Goals.{In_ok-added}
+use Rattle.vm_report.proofs.sections.push_next_lines.Goals.{In_ok-next}
 
 -- the text so far has what the line prints
-one_more : (c : In_ok-added) → c.push_next.new.out.items ++ lines_left c.args.lines.now (c.loop-at.at + 1) (entries_left c.args.history.now c.args.runs.now c.in_ok-added.added.left)
+one_more : (c : In_ok-next) → c.push_next.new.out.items ++ lines_left c.args.lines.now (c.loop-at.at + 1) (entries_left c.args.history.now c.args.runs.now c.in_ok-next.next)
     ≡ c.args.out.now.items ++ lines_left c.args.lines.now c.args.line (entries_left c.args.history.now c.args.runs.now c.args.place)
 one_more c =
     let all = entries_left c.args.history.now c.args.runs.now c.loop-at.left in
     let line = c.index-lines-at.result.now in
-    lines_more (map (λ (l : Bor PlanLine). l.now) c.args.lines.now) c.loop-at.at line all (take (entries_made line all) all) (entries_left c.args.history.now c.args.runs.now c.in_ok-added.added.left) c.loop-at.out.items _ _
+    lines_more (map (λ (l : Bor PlanLine). l.now) c.args.lines.now) c.loop-at.at line all (take (entries_made line all) all) (entries_left c.args.history.now c.args.runs.now c.in_ok-next.next) c.loop-at.out.items _ _
     (rw length-map c.loop-at-test.true) (seen_at (λ (l : Bor PlanLine). l.now) c.args.lines.now c.loop-at.at c.index-lines-at.result c.loop-at-test.true c.index-lines-at.is)
-    refl c.in_ok-added.ensures.left c.in_ok-added.ensures.text c.loop-at.invariant.so_far
+    refl c.in_ok-next.ensures.left c.in_ok-next.ensures.text c.loop-at.invariant.so_far
 
-left : (c : In_ok-added) → IsLeftOf c.args.history.now c.args.runs.now c.args.place c.in_ok-added.added.left
+left : (c : In_ok-next) → IsLeftOf c.args.history.now c.args.runs.now c.args.place c.in_ok-next.next
 left c =
     let all = entries_left c.args.history.now c.args.runs.now c.loop-at.left in
-    left-on c.args.history.now c.args.runs.now c.args.place c.loop-at.left c.in_ok-added.added.left (entries_made c.index-lines-at.result.now all) c.loop-at.invariant.left c.in_ok-added.ensures.left c.in_ok-added.ensures.whole
+    left-on c.args.history.now c.args.runs.now c.args.place c.loop-at.left c.in_ok-next.next (entries_made c.index-lines-at.result.now all) c.loop-at.invariant.left c.in_ok-next.ensures.left c.in_ok-next.ensures.whole
 
 pub loop-at-init : goal.loop-at-init
 loop-at-init c = record { so_far = refl; from = omega arith; to = let lt = c.requires.line in omega (arith, lt); left = left-same c.args.history.now c.args.runs.now c.args.place c.requires.whole }
@@ -38,7 +38,7 @@ push_next-requires-clause-well_formed c = left-well c.args.history.now c.args.ru
 
 pub loop-at-preserved : goal.loop-at-preserved
 loop-at-preserved c =
-    let d = (goal.at.loop-at-preserved c).In_ok-added in
+    let d = (goal.at.loop-at-preserved c).In_ok-next in
     record {
       so_far = one_more d;
       from = let from = c.loop-at.invariant.from in omega (arith, from);
@@ -47,4 +47,4 @@ loop-at-preserved c =
     }
 
 pub returns-then-len-ge-LONG-clause-text : goal.returns-then-len-ge-LONG-clause-text
-returns-then-len-ge-LONG-clause-text c = one_more ((goal.at.returns-then-len-ge-LONG-clause-text c).In_ok-added)
+returns-then-len-ge-LONG-clause-text c = one_more ((goal.at.returns-then-len-ge-LONG-clause-text c).In_ok-next)
