@@ -9,7 +9,7 @@ use std::alloc::{AllocError, Global};
 use std::io::{Read, Write};
 use std::{env, io};
 use vm_report::{
-    Call, Entry, Errno, Place, Plan, PlanAct, PlanLine, Reply, are_well_formed, parse,
+    Call, Entries, Entry, Errno, Place, Plan, PlanAct, PlanLine, Reply, are_well_formed, parse,
     process_sections,
 };
 
@@ -28,7 +28,7 @@ fn reply_to(call: &Call) -> Reply {
 }
 
 /// Adds the entry of a line; a wait has none, nor has a write, which would be done in parts.
-fn add_entry(history: &mut Vec<Entry>, line: &PlanLine) -> Result<(), AllocError> {
+fn add_entry(history: &mut Entries, line: &PlanLine) -> Result<(), AllocError> {
     let call = match &line.act {
         PlanAct::Call(call) => call.call(),
         PlanAct::Named { call, .. } => call.call(),
@@ -36,17 +36,16 @@ fn add_entry(history: &mut Vec<Entry>, line: &PlanLine) -> Result<(), AllocError
     };
     let reply = reply_to(&call);
     let process = line.process;
-    history.push(Entry {
+    history.push(&Entry {
         process,
         call,
         reply,
         cleared: 0,
-    })?;
-    Ok(())
+    })
 }
 
-fn history_of(alloc: Global, plan: &Plan) -> Result<Vec<Entry>, AllocError> {
-    let mut history = Vec::new(alloc);
+fn history_of(alloc: Global, plan: &Plan) -> Result<Entries, AllocError> {
+    let mut history = Entries::new(alloc);
     for line in plan.lines() {
         add_entry(&mut history, line)?;
     }
@@ -54,7 +53,7 @@ fn history_of(alloc: Global, plan: &Plan) -> Result<Vec<Entry>, AllocError> {
 }
 
 /// The sections of a plan with this history.
-fn report_of(alloc: Global, plan: &Plan, history: &[Entry]) -> Result<Vec<u8>, AllocError> {
+fn report_of(alloc: Global, plan: &Plan, history: &Entries) -> Result<Vec<u8>, AllocError> {
     let mut out = Vec::new(alloc);
     let is_small = history.len() < 2_000_000 && plan.parents().len() < 2_000_000;
     if is_small && are_well_formed(history) {

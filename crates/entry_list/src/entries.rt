@@ -1,21 +1,22 @@
 //! A list of entries.
 ghost use Rattle.std.specs.Prelude.{◌≡◌, ◌<◌, ◌≤◌, ◌+◌, ◌==◌, ◌++◌, ◌∷◌, [], Some, length, take, drop, slice_get, IfOk, OnOk};
-ghost use Rattle.entry_list.specs.Rows.{entry_seen, row_entries, AreRowsWithin};
+ghost use Rattle.entry_list.specs.Rows.{entry_seen, part_entry, row_entries, AreRowsWithin};
 
-use crate::row::{EntryAt, Row, short_row};
+use crate::row::{EntryAt, ReadPart, Row, short_row};
 use crate::slice::EntrySlice;
 use std::alloc::{AllocError, Global};
 use std::marker::Model;
-use vm_types::Entry;
+use vm_types::{Call, Entry, Reply};
 
-/// A list of entries. A load that gave a word and a store that was done take 20 bytes, where no tail became zeros for them; every other entry takes
-/// 20 bytes more than itself.
+/// A list of entries. A load that gave a word and a store that was done take 20 bytes, and a part of a read that got bytes takes 100, where no tail
+/// became zeros for them; every other entry takes 20 bytes more than itself.
 ///
 /// It is seen as the list.
 #[derive(Drop)]
 pub struct Entries {
     rows: Vec<Row>,
     whole: Vec<Entry>,
+    reads: Vec<ReadPart>,
 }
 
 impl Model for Entries {
@@ -25,9 +26,9 @@ impl Model for Entries {
 
     ghost Value = { List EntrySeen };
 
-    ghost view = { λ l. row_entries l.whole.items l.rows.items };
+    ghost view = { λ l. row_entries l.whole.items l.reads.items l.rows.items };
 
-    ghost invariant = { λ l. AreRowsWithin (length l.whole.items) l.rows.items };
+    ghost invariant = { λ l. AreRowsWithin (length l.whole.items) (length l.reads.items) l.rows.items };
 }
 
 impl Entries {
@@ -38,15 +39,16 @@ impl Entries {
         Entries {
             rows: Vec::new(alloc),
             whole: Vec::new(alloc),
+            reads: Vec::new(alloc),
         }
     }
 
     // The list of these rows.
-    pub(crate) fn of(rows: Vec<Row>, whole: Vec<Entry>) -> Entries
-        requires { AreRowsWithin (length whole.items) rows.items }
-        ensures { result ≡ row_entries whole.items rows.items }
+    pub(crate) fn of(rows: Vec<Row>, whole: Vec<Entry>, reads: Vec<ReadPart>) -> Entries
+        requires { AreRowsWithin (length whole.items) (length reads.items) rows.items }
+        ensures { result ≡ row_entries whole.items reads.items rows.items }
     {
-        Entries { rows, whole }
+        Entries { rows, whole, reads }
     }
 
     /// How many entries there are.
@@ -92,6 +94,16 @@ impl Entries {
                 size,
                 value,
             },
+            Row::Read { process, place } => {
+                let part = &self.reads[place as usize];
+                EntryAt::Read {
+                    process,
+                    file: part.file,
+                    offset: part.offset,
+                    length: part.length,
+                    bytes: &part.bytes,
+                }
+            }
             Row::Whole(whole) => EntryAt::Whole(&self.whole[whole as usize]),
         }
     }
@@ -114,7 +126,7 @@ impl Entries {
         EntrySlice::of(self, first, count)
     }
 
-    /// Adds an entry. The only error is want of memory, or of numbers for 2^32 entries that are kept whole.
+    /// Adds an entry. The only error is want of memory, or of numbers for 2^32 entries that are kept whole, or for as many parts of reads.
     pub fn push(&mut self, entry: &Entry) -> Result<(), AllocError>
         ensures { OnOk result (self.new ≡ self.old ++ entry.now ∷ []) }
     {
@@ -122,11 +134,64 @@ impl Entries {
             self.rows.push(row)?;
             return Ok(());
         }
+        match (&entry.call, &entry.reply) {
+            (
+                &Call::Read {
+                    file,
+                    offset,
+                    length,
+                },
+                &Reply::Bytes(bytes),
+            ) if entry.cleared == 0 => self.push_read(
+                entry.process,
+                ReadPart {
+                    file,
+                    offset,
+                    length,
+                    bytes,
+                },
+            ),
+            _ => self.push_whole(entry),
+        }
+    }
+
+    // Adds the entry of a part of a read.
+    fn push_read(&mut self, process: u32, part: ReadPart) -> Result<(), AllocError>
+        ensures { OnOk result (self.new ≡ self.old ++ part_entry process part ∷ []) }
+    {
+        let place = self.reads.len();
+        if place > u32::MAX as usize {
+            return Err(AllocError);
+        }
+        self.reads.push(part)?;
+        self.rows.push(Row::Read {
+            process,
+            place: place as u32,
+        })?;
+        Ok(())
+    }
+
+    // Adds an entry, and keeps it whole.
+    fn push_whole(&mut self, entry: &Entry) -> Result<(), AllocError>
+        ensures { OnOk result (self.new ≡ self.old ++ entry.now ∷ []) }
+    {
         let place = self.whole.len();
         if place > u32::MAX as usize {
             return Err(AllocError);
         }
-        self.whole.push(*entry)?;
+        // It is taken apart and made again: no proof is found of a call that moves an entry and names no call and no reply.
+        let Entry {
+            process,
+            call,
+            reply,
+            cleared,
+        } = *entry;
+        self.whole.push(Entry {
+            process,
+            call,
+            reply,
+            cleared,
+        })?;
         self.rows.push(Row::Whole(place as u32))?;
         Ok(())
     }

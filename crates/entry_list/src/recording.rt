@@ -2,9 +2,10 @@
 ghost use Rattle.std.specs.Prelude.{◌≡◌, ◌<◌, ◌≤◌, ◌^◌, ◌++◌, ◌∷◌, [], length, vec_len, vec_capacity, IfOk};
 ghost use Rattle.entry_list.specs.vm_types.declared.call.Call.TheVariants.{Load, Store};
 ghost use Rattle.entry_list.specs.vm_types.declared.call.Reply.TheVariants as reply;
+ghost use Rattle.entry_list.specs.Rows.{part_entry};
 
 use crate::entries::Entries;
-use crate::row::{Row, short_row};
+use crate::row::{ReadPart, Row, short_row};
 use std::alloc::{AllocError, Global};
 use std::marker::Model;
 use vm_types::{Call, Entry, Reply};
@@ -16,6 +17,7 @@ use vm_types::{Call, Entry, Reply};
 pub struct Recording {
     rows: Vec<Row>,
     whole: Vec<Entry>,
+    reads: Vec<ReadPart>,
     room: usize,
 }
 
@@ -26,9 +28,9 @@ impl Model for Recording {
 
     ghost Value = { RecordingSeen };
 
-    ghost view = { λ r. record { entries = row_entries r.whole.items r.rows.items; room = r.room } };
+    ghost view = { λ r. record { entries = row_entries r.whole.items r.reads.items r.rows.items; room = r.room } };
 
-    ghost invariant = { λ r. IsSoundRecording r.rows.items r.whole.items r.room (vec_capacity r.rows) (vec_capacity r.whole) };
+    ghost invariant = { λ r. IsSoundRecording r.rows.items r.whole.items r.reads.items r.room (vec_capacity r.rows) (vec_capacity r.whole) (vec_capacity r.reads) };
 }
 
 impl Recording {
@@ -41,6 +43,7 @@ impl Recording {
         Ok(Recording {
             rows: Vec::with_capacity(alloc, room)?,
             whole: Vec::with_capacity(alloc, room)?,
+            reads: Vec::with_capacity(alloc, room)?,
             room,
         })
     }
@@ -67,7 +70,7 @@ impl Recording {
     {
         match short_row(process, call, reply, cleared) {
             Some(row) => self.rows.push_reserved(row),
-            None => self.push_whole(process, call, reply, cleared),
+            None => self.push_long(process, call, reply, cleared),
         }
     }
 
@@ -129,7 +132,52 @@ impl Recording {
         }
     }
 
-    // The same of any entry, which is kept whole. Not inline, so that a hit's code has no room for a copy of a call and a reply.
+    // The same of any entry, of which more than a row is kept. Not inline, so that a hit's code has no room for copies.
+    #[inline(never)]
+    fn push_long(&mut self, process: u32, call: &Call, reply: &Reply, cleared: u64)
+        requires { length self.old.entries < self.old.room }
+        ensures entries { self.new.entries ≡ self.old.entries ++ record {
+          process = process;
+          call = call.now;
+          reply = reply.now;
+          cleared = cleared;
+        } ∷ [] }
+        ensures room { self.new.room ≡ self.old.room }
+    {
+        match (call, reply) {
+            (
+                &Call::Read {
+                    file,
+                    offset,
+                    length,
+                },
+                &Reply::Bytes(bytes),
+            ) if cleared == 0 => self.push_read(
+                process,
+                ReadPart {
+                    file,
+                    offset,
+                    length,
+                    bytes,
+                },
+            ),
+            _ => self.push_whole(process, call, reply, cleared),
+        }
+    }
+
+    // The same of the entry of a part of a read.
+    #[inline(always)]
+    fn push_read(&mut self, process: u32, part: ReadPart)
+        requires { length self.old.entries < self.old.room }
+        ensures entries { self.new.entries ≡ self.old.entries ++ part_entry process part ∷ [] }
+        ensures room { self.new.room ≡ self.old.room }
+    {
+        let place = self.reads.len() as u32;
+        self.reads.push_reserved(part);
+        self.rows.push_reserved(Row::Read { process, place });
+    }
+
+    // The same of any entry, which is kept whole.
     #[inline(never)]
     fn push_whole(&mut self, process: u32, call: &Call, reply: &Reply, cleared: u64)
         requires { length self.old.entries < self.old.room }
@@ -155,6 +203,6 @@ impl Recording {
     pub fn into_entries(self) -> Entries
         ensures { result ≡ self.entries }
     {
-        Entries::of(self.rows, self.whole)
+        Entries::of(self.rows, self.whole, self.reads)
     }
 }

@@ -14,7 +14,8 @@ ghost use Rattle.seg_ops.specs.vm_world.World.{world_seen, AllTell};
 use crate::blanks::fill_if_pushed;
 use crate::closing::push_files;
 use crate::history::KernelHistory;
-use seg_ops::{Disk, DiskFault, Entry, Files, Store, World};
+use entry_list::Entries;
+use seg_ops::{Disk, DiskFault, Files, Store, World};
 
 /// What is left of a kernel: its history, files and disks, and the transfer that failed as it was closed, if one did.
 #[derive(Drop)]
@@ -57,12 +58,12 @@ fn within_fault(fault: Option<DiskFault>)
 }
 
 /// Writes a world's files to their disks, which come out with what is left.
-pub fn finish_world<D: Disk>(world: World<D>, entries: Vec<Entry>) -> Finished<D>
+pub fn finish_world<D: Disk>(world: World<D>, entries: Entries) -> Finished<D>
     requires fits { (spaces : Spaces)
         × MemoryFits (record { world = world_seen world; spaces = spaces }) }
     requires noted { NotesFit (world_seen world) no_notes }
     // The history comes out, with each disk's count of faults as the call began.
-    ensures history { result.history.entries ≡ entries.items }
+    ensures history { result.history.entries ≡ entries }
     ensures counts { (disk : ℕ) → slice_index_or result.history.faults disk None
         ≡ home_faults (bay_at world.store.bays disk) }
     // Without a fault the disks have the pages of the files, where they tell.

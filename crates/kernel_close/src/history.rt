@@ -1,13 +1,13 @@
 //! The history of a kernel that was closed.
 ghost use Rattle.std.specs.Prelude.{◌≡◌, [], None, length, slice_index_or};
 
-use seg_ops::Entry;
+use entry_list::Entries;
+use std::alloc::Global;
 use std::marker::Model;
 
-// What a kernel recorded, and the counts of its disks by number.
+// The counts of a kernel's disks by number.
 #[derive(Drop)]
-struct Record {
-    entries: Vec<Entry>,
+struct Counts {
     faults: [Option<u64>; 9],
     ghost nine: { length faults ≡ 9 },
 }
@@ -16,7 +16,8 @@ struct Record {
 /// `finish_world` alone.
 #[derive(Drop)]
 pub struct KernelHistory {
-    past: Option<Record>,
+    entries: Entries,
+    counts: Option<Counts>,
 }
 
 impl Model for KernelHistory {
@@ -25,36 +26,37 @@ impl Model for KernelHistory {
 
     ghost Value = { HistorySeen };
 
-    ghost view = { λ h. elim h.past [ None ↦ record { entries = []; faults = [] } | Some k ↦ record { entries = k.entries.items; faults = k.faults } ] };
+    ghost view = { λ h. record { entries = h.entries; faults = elim h.counts [ None ↦ [] | Some k ↦ k.faults ] } };
 }
 
 impl KernelHistory {
     /// No history: no entries, and no disks. It takes no memory.
-    pub fn none() -> KernelHistory
+    pub fn none(alloc: Global) -> KernelHistory
         ensures entries { result.entries ≡ [] }
         ensures faults { result.faults ≡ [] }
     {
-        KernelHistory { past: None }
+        KernelHistory {
+            entries: Entries::new(alloc),
+            counts: None,
+        }
     }
 
     // The history of a kernel whose disks had these counts.
-    pub(crate) fn of(entries: Vec<Entry>, faults: [Option<u64>; 9]) -> KernelHistory
-        ensures entries { result.entries ≡ entries.items }
+    pub(crate) fn of(entries: Entries, faults: [Option<u64>; 9]) -> KernelHistory
+        ensures entries { result.entries ≡ entries }
         ensures faults { result.faults ≡ faults }
     {
         KernelHistory {
-            past: Some(Record { entries, faults }),
+            entries,
+            counts: Some(Counts { faults }),
         }
     }
 
     /// The entries.
-    pub fn entries(&self) -> &[Entry]
+    pub fn entries(&self) -> &Entries
         ensures { result.now ≡ self.now.entries }
     {
-        match &self.past {
-            Some(past) => past.entries.as_slice(),
-            None => &[],
-        }
+        &self.entries
     }
 
     /// How many faults a disk had counted as the kernel was closed, by its number, which is 8 for the swap disk; none where
@@ -62,8 +64,8 @@ impl KernelHistory {
     pub fn faults(&self, disk: u32) -> Option<u64>
         ensures { result ≡ slice_index_or self.now.faults disk None }
     {
-        match &self.past {
-            Some(past) if disk < 9 => past.faults[disk as usize],
+        match &self.counts {
+            Some(counts) if disk < 9 => counts.faults[disk as usize],
             _ => None,
         }
     }

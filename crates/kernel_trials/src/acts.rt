@@ -135,9 +135,11 @@ pub(crate) fn played<R: Wait, D: Disk>(
 
 /// The process of an entry; 0 past the last one.
 pub(crate) fn maker<D: Disk>(finished: &Finished<D>, place: usize) -> u32 {
-    match finished.history.entries().get(place) {
-        Some(entry) => entry.process,
-        None => 0,
+    let entries = finished.history.entries();
+    if place < entries.len() {
+        entries.at(place).process()
+    } else {
+        0
     }
 }
 

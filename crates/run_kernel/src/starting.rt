@@ -100,7 +100,7 @@ fn without_memory<D: Disk>(disks: Vec<(u32, D)>, swap: Option<D>, back: Vec<D>) 
 {
     Stop {
         ending: Ending::Memory,
-        history: KernelHistory::none(),
+        history: KernelHistory::none(*back.allocator()),
         disks: without_numbers(disks, back),
         swap,
     }

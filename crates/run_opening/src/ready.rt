@@ -61,7 +61,7 @@ fn stop_untraced<D: Disk>(how: Ending, attached: Attached<D>) -> Stop<D>
 {
     Stop {
         ending: how,
-        history: KernelHistory::none(),
+        history: KernelHistory::none(*attached.back.allocator()),
         disks: into_disks(attached.disks, attached.back),
         swap: into_swap(attached.swap),
     }

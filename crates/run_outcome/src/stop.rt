@@ -39,7 +39,7 @@ pub fn stop_unopened<D: Disk>(back: HandedBack<D>) -> Stop<D>
 {
     Stop {
         ending: ending_of(back.why),
-        history: KernelHistory::none(),
+        history: KernelHistory::none(*back.disks.allocator()),
         disks: back.disks,
         swap: back.swap,
     }
@@ -55,7 +55,7 @@ pub fn bare_stop<D: Disk>(alloc: Global, ending: Ending) -> Stop<D>
 {
     Stop {
         ending,
-        history: KernelHistory::none(),
+        history: KernelHistory::none(alloc),
         disks: Vec::new(alloc),
         swap: None,
     }

@@ -13,7 +13,7 @@ use command_line::Options;
 use run_endings::Ending;
 use std::alloc::{AllocError, Global};
 use volume_files::{
-    Disk, DiskFault, Entry, Files, Heading, Plan, ShowStop, Sink, TableStop, disk_fault,
+    Disk, DiskFault, Entries, Files, Heading, Plan, ShowStop, Sink, TableStop, disk_fault,
     show_files, write_all, write_tables,
 };
 
@@ -22,7 +22,7 @@ fn closing_text(
     alloc: Global,
     options: &Options,
     plan: &Plan,
-    history: &[Entry],
+    history: &Entries,
     fault: &DiskFault,
 ) -> Result<Vec<u8>, AllocError>
     requires few { length history.now < 2 ^ 32 }
@@ -42,7 +42,7 @@ pub fn tell_fault<K: Sink>(
     alloc: Global,
     options: &Options,
     plan: &Plan,
-    history: &[Entry],
+    history: &Entries,
     fault: DiskFault,
     out: &mut K,
 ) -> Ending
@@ -79,7 +79,7 @@ fn show_report<D: Disk, K: Sink>(
     alloc: Global,
     options: &Options,
     plan: &Plan,
-    history: &[Entry],
+    history: &Entries,
     files: &Files,
     disks: &mut [(u32, D)],
     out: &mut K,
@@ -114,7 +114,7 @@ pub fn report<D: Disk, K: Sink>(
     alloc: Global,
     options: &Options,
     plan: &Plan,
-    history: &[Entry],
+    history: &Entries,
     files: &Files,
     disks: &mut [(u32, D)],
     out: &mut K,

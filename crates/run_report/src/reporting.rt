@@ -10,11 +10,11 @@ use command_line::Options;
 use run_endings::Ending;
 use std::alloc::{AllocError, Global};
 use volume_files::{
-    Entry, Plan, SectionsLeft, Sink, process_sections, summary, trace_entries, write_all,
+    Entries, Plan, SectionsLeft, Sink, process_sections, summary, trace_entries, write_all,
 };
 
 // Adds the entries, where a trace is asked for, and the summary of a generated script.
-fn begin_middle(options: &Options, history: &[Entry], text: &mut Vec<u8>) -> Result<(), AllocError>
+fn begin_middle(options: &Options, history: &Entries, text: &mut Vec<u8>) -> Result<(), AllocError>
     requires few { length history.now < 2 ^ 32 }
     requires well_formed { All (λ e. IsWellFormed e.call) history.now }
     ensures new { OnOk result
@@ -33,7 +33,7 @@ fn begin_middle(options: &Options, history: &[Entry], text: &mut Vec<u8>) -> Res
 pub fn middle(
     options: &Options,
     plan: &Plan,
-    history: &[Entry],
+    history: &Entries,
     out: &mut Vec<u8>,
 ) -> Result<(), AllocError>
     requires few { length history.now < 2 ^ 32 }
@@ -92,7 +92,7 @@ fn send_long<K: Sink>(text: &mut Vec<u8>, out: &mut K) -> Result<(), Ending>
 // text.
 fn write_sections<K: Sink>(
     plan: &Plan,
-    history: &[Entry],
+    history: &Entries,
     text: &mut Vec<u8>,
     out: &mut K,
 ) -> Result<(), Ending>
@@ -130,7 +130,7 @@ fn write_sections<K: Sink>(
 fn write_asked<K: Sink>(
     options: &Options,
     plan: &Plan,
-    history: &[Entry],
+    history: &Entries,
     text: &mut Vec<u8>,
     out: &mut K,
 ) -> Result<(), Ending>
@@ -164,7 +164,7 @@ pub fn write_middle<K: Sink>(
     alloc: Global,
     options: &Options,
     plan: &Plan,
-    history: &[Entry],
+    history: &Entries,
     out: &mut K,
 ) -> Result<(), Ending>
     requires few { length history.now < 2 ^ 32 }

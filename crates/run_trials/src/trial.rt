@@ -91,11 +91,13 @@ fn blocks_of(alloc: Global, disks: &[MemDisk]) -> Result<Vec<Vec<Block>>, AllocE
 }
 
 fn left_of(alloc: Global, outcome: Outcome<MemDisk>, text: Vec<u8>) -> Result<Left, AllocError> {
+    let mut entries = Vec::new(alloc);
+    outcome.history.entries().push_to(&mut entries)?;
     Ok(Left {
         status: outcome.status,
         fault: step_of(&outcome.fault),
         text,
-        entries: Vec::from_slice(alloc, outcome.history.entries())?,
+        entries,
         disks: blocks_of(alloc, &outcome.disks)?,
         first: transfers(outcome.disks.first()),
         second: transfers(outcome.disks.get(1)),

@@ -10,6 +10,8 @@ mod fault_tests;
 #[cfg(test)]
 mod generated_tests;
 #[cfg(test)]
+mod list_tests;
+#[cfg(test)]
 mod opening_tests;
 #[cfg(test)]
 mod plan_tests;

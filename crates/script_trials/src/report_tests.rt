@@ -2,9 +2,9 @@
 use std::alloc::{AllocError, Global};
 use std::test::Fail;
 use vm_report::{
-    are_well_formed, disk_fault, file_heading, file_lines, process_section, process_sections,
-    rack_fault, script_fault, setup_fault, summary, trace_entries, trace_file, trace_opening,
-    volume_fault,
+    Entries, are_well_formed, disk_fault, file_heading, file_lines, process_section,
+    process_sections, rack_fault, script_fault, setup_fault, summary, trace_entries, trace_file,
+    trace_opening, volume_fault,
 };
 use vm_script::{ScriptFault, ScriptKind, parse};
 use vm_types::{Call, Entry, Errno, Kind, Line, Object, Place, Prot, Reply, Signal};
@@ -98,12 +98,13 @@ fn put_report(
     history: &[Entry],
     out: &mut Vec<u8>,
 ) -> Result<(), AllocError> {
-    if !are_well_formed(history) || history.len() > 1_048_576 {
+    let history = Entries::from_slice(alloc, history)?;
+    if !are_well_formed(&history) || history.len() > 1_048_576 {
         return Ok(());
     }
     if let Ok(plan) = parse(alloc, script.as_bytes())? {
         if plan.parents().len() < 1000 {
-            process_sections(&plan, history, out)?;
+            process_sections(&plan, &history, out)?;
         }
     }
     Ok(())
@@ -278,10 +279,11 @@ fn put_trace(history: &[Entry], out: &mut Vec<u8>) -> Result<(), AllocError> {
     trace_opening(64, &[(0, 8)], &[0, 1], out)?;
     trace_file(0, b"a", true, 0, 5, &[(1, 2), (5, 1)], out)?;
     file_lines(0, b"hello", out)?;
-    if are_well_formed(history) {
-        trace_entries(history, out)?;
+    let history = Entries::from_slice(*out.allocator(), history)?;
+    if are_well_formed(&history) {
+        trace_entries(&history, out)?;
     }
-    summary(3, history, out)
+    summary(3, &history, out)
 }
 
 #[test]
@@ -318,7 +320,7 @@ fn faults(rt: HostRuntime) -> Result<(), Fail> {
 
 // Writes the section of process 2 alone.
 fn put_section(alloc: Global, out: &mut Vec<u8>) -> Result<(), AllocError> {
-    let history = [exit(2), exit(1)];
+    let history = Entries::from_slice(alloc, &[exit(2), exit(1)])?;
     if let Ok(plan) = parse(alloc, b"process\nend\nprocess\nend")? {
         if are_well_formed(&history) {
             process_section(&plan, 2, &history, out)?;

@@ -146,9 +146,11 @@ pub(crate) fn closed_after(entries: usize, born: u32, refused: u32) -> Closed {
 }
 
 fn look_at(alloc: Global, run: Run, finished: &Finished<MemDisk>) -> Result<Closed, AllocError> {
+    let mut entries = Vec::new(alloc);
+    finished.history.entries().push_to(&mut entries)?;
     Ok(Closed {
         fault: finished.fault,
-        counts: counts_of(alloc, run, finished.history.entries())?,
+        counts: counts_of(alloc, run, &entries)?,
     })
 }
 

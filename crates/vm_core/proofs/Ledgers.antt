@@ -70,3 +70,11 @@ pushed H capacity entries left e q s is lt some = record {
 pub has-room : (H : List Entry) (capacity : ℕ) (entries left : List ℕ) (q : ℕ) → IsSoundLedger H capacity entries left → q < length left → 0 < slice_index left q → length H < capacity
 has-room H capacity entries left q s lt some =
     let was = s.room in let sums = sum_by-set (λ (n : ℕ). n) left q 0 0 lt in omega (arith, was, sums, some)
+
+-- there is room for the entry of a process that may make one more
+pub room-for-one : (H : List Entry) (capacity : ℕ) (entries left : List ℕ) (p : ℕ) → IsSoundLedger H capacity entries left → length (entries_of H p) < room_of entries p → length H < capacity
+room-for-one H capacity entries left zero s few = absurd (let none : length (entries_of H 0) < 0 = few in omega (arith, none))
+room-for-one H capacity entries left (suc q) s few =
+    let was = s.counted (suc q) in
+    let some : 0 < slice_index left q = omega (arith, was, few) in
+    has-room H capacity entries left q s (at-within left q some) some

@@ -296,7 +296,7 @@ impl<D: Disk> VmState<D> {
         ensures memory { OnErr result (TakesMemory call.now) }
         ensures err { OnErr result (self.new ≡ self.old) }
     {
-        let from = self.ledger.history().len() as u64;
+        let from = u64::from(self.ledger.length());
         mmap_calls::attempt(&mut self.world, &mut self.spaces, process, call, from)
     }
 

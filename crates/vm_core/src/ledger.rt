@@ -5,28 +5,28 @@ ghost use Rattle.fault_entry.specs.vm_types.declared.call.Call.TheVariants.{Load
 ghost use Rattle.fault_entry.specs.vm_types.declared.call.Reply.TheVariants as reply;
 ghost use Rattle.fault_entry.specs.vm_world.State.{room_of};
 
-use fault_entry::{Call, Entry, Reply};
+use entry_list::{Entries, Recording};
+use fault_entry::{Call, Reply};
 use std::alloc::{AllocError, Global};
 use std::marker::Model;
 
 /// The history, and of each process from 1 on the most entries that it may make.
 #[derive(Drop)]
 pub struct Ledger {
-    history: Vec<Entry>,
+    history: Recording,
     entries: Vec<u32>,
     // How many entries are left to each process.
     left: Vec<u32>,
 }
 
 impl Model for Ledger {
-    ghost use Rattle.std.specs.Prelude.{vec_capacity};
     ghost use Rattle.vm_core.specs.Ledger.{LedgerSeen, IsSoundLedger};
 
     ghost Value = { LedgerSeen };
 
-    ghost view = { λ l. record { history = l.history.items; entries = l.entries.items } };
+    ghost view = { λ l. record { history = l.history.entries; entries = l.entries.items } };
 
-    ghost invariant = { λ l. IsSoundLedger l.history.items (vec_capacity l.history) l.entries.items l.left.items };
+    ghost invariant = { λ l. IsSoundLedger l.history.entries l.history.room l.entries.items l.left.items };
 }
 
 // How many entries all processes may make.
@@ -41,56 +41,6 @@ fn total(entries: &[u32]) -> usize
     sum
 }
 
-// Appends an entry where there is room for it. Those of a word that was loaded and of one that was stored, the most frequent, are
-// made of their parts: a copy of a call or a reply moves the 64 bytes of a file that it may hold, too.
-#[inline(always)]
-fn append(history: &mut Vec<Entry>, process: u32, call: &Call, reply: &Reply, cleared: u64)
-    requires { vec_len history.old < vec_capacity history.old }
-    ensures items { history.new.items ≡ history.old.items ++ record {
-      process = process;
-      call = call.now;
-      reply = reply.now;
-      cleared = cleared;
-    } ∷ [] }
-    ensures capacity { vec_capacity history.new ≡ vec_capacity history.old }
-{
-    match (call, reply) {
-        (&Call::Load { addr, size }, &Reply::Word(word)) => history.push_reserved(Entry {
-            process,
-            call: Call::Load { addr, size },
-            reply: Reply::Word(word),
-            cleared,
-        }),
-        (&Call::Store { addr, size, value }, Reply::Done) => history.push_reserved(Entry {
-            process,
-            call: Call::Store { addr, size, value },
-            reply: Reply::Done,
-            cleared,
-        }),
-        _ => append_copy(history, process, call, reply, cleared),
-    }
-}
-
-// Appends an entry of a copy of the call and the reply. Not inline, so that a hit's code has no room for them.
-#[inline(never)]
-fn append_copy(history: &mut Vec<Entry>, process: u32, call: &Call, reply: &Reply, cleared: u64)
-    requires { vec_len history.old < vec_capacity history.old }
-    ensures items { history.new.items ≡ history.old.items ++ record {
-      process = process;
-      call = call.now;
-      reply = reply.now;
-      cleared = cleared;
-    } ∷ [] }
-    ensures capacity { vec_capacity history.new ≡ vec_capacity history.old }
-{
-    history.push_reserved(Entry {
-        process,
-        call: *call,
-        reply: *reply,
-        cleared,
-    });
-}
-
 impl Ledger {
     /// No entries yet, and the room for all. The only error is want of memory, or of numbers for 2^32 entries.
     pub fn new(alloc: Global, entries: &[u32]) -> Result<Ledger, AllocError>
@@ -103,7 +53,7 @@ impl Ledger {
             return Err(AllocError);
         }
         Ok(Ledger {
-            history: Vec::with_capacity(alloc, total)?,
+            history: Recording::with_room(alloc, total as u32)?,
             entries: entries.to_vec(alloc)?,
             left: entries.to_vec(alloc)?,
         })
@@ -151,7 +101,7 @@ impl Ledger {
         ensures entries { self.new.entries ≡ self.old.entries }
     {
         self.left[process as usize - 1] -= 1;
-        append(&mut self.history, process, call, reply, cleared);
+        self.history.push(process, call, reply, cleared);
     }
 
     /// Adds the entry of a load of a process that may make one more. It is made in the history at once: no call and no reply is moved. Takes
@@ -169,12 +119,7 @@ impl Ledger {
         ensures entries { self.new.entries ≡ self.old.entries }
     {
         self.left[process as usize - 1] -= 1;
-        self.history.push_reserved(Entry {
-            process,
-            call: Call::Load { addr, size },
-            reply: Reply::Word(word),
-            cleared,
-        });
+        self.history.push_load(process, addr, size, word, cleared);
     }
 
     /// The same of a store.
@@ -191,25 +136,13 @@ impl Ledger {
         ensures entries { self.new.entries ≡ self.old.entries }
     {
         self.left[process as usize - 1] -= 1;
-        self.history.push_reserved(Entry {
-            process,
-            call: Call::Store { addr, size, value },
-            reply: Reply::Done,
-            cleared,
-        });
-    }
-
-    /// The entries.
-    pub fn history(&self) -> &[Entry]
-        ensures { result.now ≡ self.now.history }
-    {
-        self.history.as_slice()
+        self.history.push_store(process, addr, size, value, cleared);
     }
 
     /// Hands the entries out.
-    pub fn into_history(self) -> Vec<Entry>
-        ensures { result.items ≡ self.history }
+    pub fn into_history(self) -> Entries
+        ensures { result ≡ self.history }
     {
-        self.history
+        self.history.into_entries()
     }
 }

@@ -89,7 +89,7 @@ impl<D: Disk> VmState<D> {
     pub fn length(&self) -> u64
         ensures { result ≡ length self.now.history }
     {
-        self.ledger.history().len() as u64
+        u64::from(self.ledger.length())
     }
 
     // Adds an entry of a process, which takes the pending tails. No Sync of the process has begun then.
@@ -143,7 +143,7 @@ impl<D: Disk> VmState<D> {
         requires { seat < length self.now.syncs }
         ensures { result ≡ start_of self.now seat }
     {
-        let now = self.ledger.history().len() as u64;
+        let now = u64::from(self.ledger.length());
         self.syncs.start(seat).unwrap_or(now)
     }
 

@@ -31,10 +31,6 @@ call_behind es i e b behind lt is ends =
     ap (λ (xs : List Entry). call_length (xs ++ behind)) (drop_more es i e lt ∙ ap (λ (x : Entry). x ∷ drop (i + 1) es) (sym is))
     ∙ ap (λ t. cond t 1 (suc (call_length (drop (i + 1) es ++ behind)))) ends
 
--- the first of the entries that are left
-pub first_left : (front behind : List Entry) (e : Entry) → 0 < length front → e ≡ get_or front 0 e → front ++ behind ≡ e ∷ (drop 1 front ++ behind)
-first_left front behind e lt is = ap (λ (xs : List Entry). xs ++ behind) (drop_more front 0 e lt ∙ ap (λ (x : Entry). x ∷ drop 1 front) (sym is))
-
 -- a line that is no wait, over an entry that ends its call, made that one
 one_made : (l : PlanLine) (e : Entry) (more : List Entry) → is_wait l.act ≡ false → ends_call e.call e.reply ≡ true → entries_made l (e ∷ more) ≡ 1
 one_made l e more calls ends = ap (λ b. cond b 0 (call_length (e ∷ more))) calls ∙ ap (λ t. cond t 1 (suc (call_length more))) ends

@@ -105,7 +105,7 @@ module _ (plan : PlanSeen) (H : List Entry) (births : List Bool) (lines : List (
     pub first_left : left_of H entries p place ≡ entries_of H p
     first_left = sym (by_number place) ∙ (first ∙ seen)
 
-    pub first_place : (line : ℕ) → line ≤ length (own_lines plan p) → (place.front.now ≡ [] → entries_left H runs place ≡ []) → IsSectionPlace plan H entries p line place
+    pub first_place : (line : ℕ) → line ≤ length (own_lines plan p) → (place.front ≡ [] → entries_left H runs place ≡ []) → IsSectionPlace plan H entries p line place
     first_place line within whole = record {
       known = known;
       line_within = within;

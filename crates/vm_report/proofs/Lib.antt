@@ -5,6 +5,7 @@ pub mod LeftSections
 pub mod Blocks
 pub mod Digits
 pub mod FileLines
+pub mod Firsts
 pub mod RunEntries
 pub mod Spelled
 pub use Rattle.vm_script.proofs.flat_model as flat_model

@@ -57,12 +57,16 @@ run-next H rs next r lt is = ap (λ (xs : List Run). runs_seen H xs) (drop_more 
 pub front-passed : {A : Type 0} (n : ℕ) (front behind rest : List A) → n ≤ length front → rest ≡ drop n front → rest ++ behind ≡ drop n (front ++ behind)
 front-passed n front behind rest le is = ap (λ t. t ++ behind) is ∙ sym (drop-append-le n front behind le)
 
+-- the first of the entries that are left
+pub left-first : (H : List Entry) (rs : List Run) (at : Cursor) (e : Entry) (more : List Entry) → at.front ≡ e ∷ more → entries_left H rs at ≡ e ∷ (more ++ runs_seen H (drop at.next rs))
+left-first H rs at e more is = ap (λ (es : List Entry). es ++ runs_seen H (drop at.next rs)) is
+
 -- A LATER PLACE in a process's entries.
 module _ (H : List Entry) (rs : List Run) (from : Cursor) where
-  pub left-same : (from.front.now ≡ [] → entries_left H rs from ≡ []) → IsLeftOf H rs from from
+  pub left-same : (from.front ≡ [] → entries_left H rs from ≡ []) → IsLeftOf H rs from from
   left-same whole = record { passed = (0, refl); whole = whole }
 
-  pub left-on : (at to : Cursor) (n : ℕ) → IsLeftOf H rs from at → entries_left H rs to ≡ drop n (entries_left H rs at) → (to.front.now ≡ [] → entries_left H rs to ≡ []) → IsLeftOf H rs from to
+  pub left-on : (at to : Cursor) (n : ℕ) → IsLeftOf H rs from at → entries_left H rs to ≡ drop n (entries_left H rs at) → (to.front ≡ [] → entries_left H rs to ≡ []) → IsLeftOf H rs from to
   left-on at to n left is whole = record {
     passed = (left.passed.0 + n, is ∙ (ap (λ (es : List Entry). drop n es) left.passed.1 ∙ drop-drop n left.passed.0 (entries_left H rs from)));
     whole = whole;
@@ -88,10 +92,6 @@ within-grown n done old new le all =
 pub empty_is : (es : List Entry) (b : Bool) → b ≡ true → b ≡ (length es == 0) → es ≡ []
 empty_is [] b empty is = refl
 empty_is (e ∷ es) b empty is = absurd (let z = eqb-true (suc (length es)) 0 (sym is ∙ empty) in omega (arith, z))
-
-pub none-is : (es : List Entry) → length es < 1 → es ≡ []
-none-is [] lt = refl
-none-is (e ∷ es) lt = absurd (omega (arith, lt))
 
 -- WHERE A RUN ENDS: the next one begins what is left; behind the last one nothing is.
 pub next-left : (H : List Entry) (rs : List Run) (next : ℕ) (r : Run) (front entries : List Entry) → front ≡ [] → slice_get rs next ≡ Some r → entries ≡ run_seen H r

@@ -25,7 +25,7 @@ lines_left ls line left = text_from (map (λ l. l.now) ls) line left
 -- A later place in a process's entries: what is left there is the end of what was left, and where its run has no more, none has.
 pub record IsLeftOf (H : List Entry) (rs : List Run) (from to : Cursor) : Type 0 where
   pub passed : (n : ℕ) × (entries_left H rs to ≡ drop n (entries_left H rs from))
-  pub whole : to.front.now ≡ [] → entries_left H rs to ≡ []
+  pub whole : to.front ≡ [] → entries_left H rs to ≡ []
 
 -- What is left of the entries of process p.
 abbrev pub left_of : List Entry → List (List Run) → ℕ → Cursor → List Entry
@@ -62,4 +62,4 @@ pub record IsSectionPlace (plan : PlanSeen) (H : List Entry) (entries : List (Li
   pub line_within : line ≤ length (own_lines plan p)
   pub few : length (left_of H entries p place) < 2 ^ 32
   pub well_formed : All (λ e. IsWellFormed e.call) (left_of H entries p place)
-  pub whole : place.front.now ≡ [] → left_of H entries p place ≡ []
+  pub whole : place.front ≡ [] → left_of H entries p place ≡ []

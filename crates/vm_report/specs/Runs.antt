@@ -22,4 +22,4 @@ AreWithin n rs = All (λ r. r.first + r.count ≤ n) rs
 
 -- What is left of the entries of a process at a place: those of a slice, and those of the runs behind it.
 abbrev pub entries_left : List Entry → List Run → Cursor → List Entry
-entries_left H rs at = at.front.now ++ runs_seen H (drop at.next rs)
+entries_left H rs at = at.front ++ runs_seen H (drop at.next rs)

@@ -4,10 +4,12 @@ ghost use Rattle.std.specs.List.{list_any};
 ghost use Rattle.vm_script.specs.flat_model.Told.{entries_of};
 ghost use Rattle.vm_script.specs.Told.{is_birth};
 ghost use Rattle.vm_script.specs.vm_types.declared.call.Entry.{Entry as EntrySeen};
+ghost use Rattle.entry_list.specs.Rows.{entry_seen};
 ghost use Rattle.vm_report.specs.Groups.{with_member, with_birth};
 ghost use Rattle.vm_report.specs.Runs.{AreWithin, no_runs, runs_seen};
 
 use crate::runs::Runs;
+use entry_list::{Entries, EntryAt};
 use std::alloc::{AllocError, Global};
 use std::marker::Model;
 use vm_script::{Call, Entry, PlanLine, Reply};
@@ -99,7 +101,7 @@ fn add_entry(groups: &mut Vec<Runs>, process: u32, index: u32) -> Result<(), All
 /// The entries of each process below `count`.
 pub fn entries_by_process(
     alloc: Global,
-    history: &[Entry],
+    history: &Entries,
     count: usize,
 ) -> Result<Vec<Runs>, AllocError>
     requires few { length history.now < 2 ^ 32 }
@@ -111,7 +113,7 @@ pub fn entries_by_process(
 {
     let mut groups = empty_runs(alloc, count)?;
     for index in 0..history.len() {
-        add_entry(&mut groups, history[index].process, index as u32)?;
+        add_entry(&mut groups, history.at(index).process(), index as u32)?;
     }
     Ok(groups)
 }
@@ -143,15 +145,24 @@ fn add_birth(births: &mut Vec<bool>, entry: &Entry)
     }
 }
 
+fn add_birth_at(births: &mut Vec<bool>, entry: EntryAt<'_>)
+    ensures { births.new.items ≡ with_birth births.old.items (entry_seen entry.entry) }
+{
+    match entry {
+        EntryAt::Load { .. } | EntryAt::Store { .. } | EntryAt::Read { .. } => {}
+        EntryAt::Whole(entry) => add_birth(births, entry),
+    }
+}
+
 /// Which of the processes below `count` the history's forks made.
-pub fn births_of(alloc: Global, history: &[Entry], count: usize) -> Result<Vec<bool>, AllocError>
+pub fn births_of(alloc: Global, history: &Entries, count: usize) -> Result<Vec<bool>, AllocError>
     ensures count { IfOk result (λ births. length births.items ≡ count) }
     ensures each { IfOk result (λ births. (p : ℕ) → p < count →
         slice_index_or births.items p false ≡ list_any (is_birth p) history.now) }
 {
     let mut births = vec![in alloc; false; count]?;
-    for entry in history {
-        add_birth(&mut births, entry);
+    for place in 0..history.len() {
+        add_birth_at(&mut births, history.at(place));
     }
     Ok(births)
 }

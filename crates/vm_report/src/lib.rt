@@ -18,6 +18,7 @@ mod text;
 mod traces;
 mod well_formed;
 
+pub use entry_list::Entries;
 pub use faults::{
     disk_fault, rack_fault, read_fault, script_fault, setup_fault, usage, volume_fault,
 };

@@ -7,9 +7,10 @@ use crate::cursors::{Cursor, first_place};
 use crate::groups::{Group, births_of, entries_by_process, lines_by_process};
 use crate::runs::Runs;
 use crate::sections::{is_born_by, push_heading, push_next_lines};
+use entry_list::Entries;
 use std::alloc::{AllocError, Global};
 use std::marker::Model;
-use vm_script::{Entry, Plan, PlanLine};
+use vm_script::{Plan, PlanLine};
 
 /// The sections of all processes of a plan, in order of number, which are added piece by piece.
 ///
@@ -18,7 +19,7 @@ use vm_script::{Entry, Plan, PlanLine};
 #[derive(Drop)]
 pub struct SectionsLeft<'a> {
     plan: &'a Plan,
-    history: &'a [Entry],
+    history: &'a Entries,
     births: Vec<bool>,
     lines: Vec<Group<'a, PlanLine>>,
     entries: Vec<Runs>,
@@ -50,7 +51,7 @@ impl<'a> SectionsLeft<'a> {
     pub fn new(
         alloc: Global,
         plan: &'a Plan,
-        history: &'a [Entry],
+        history: &'a Entries,
     ) -> Result<SectionsLeft<'a>, AllocError>
         requires few { length history.now < 2 ^ 32 }
         requires few_blocks { length plan.now.parents < 2 ^ 31 }
@@ -95,7 +96,7 @@ impl<'a> SectionsLeft<'a> {
                 self.history,
                 runs,
                 self.line,
-                self.place,
+                self.place.again(),
             )?;
             return Ok(true);
         }
@@ -117,7 +118,7 @@ impl<'a> SectionsLeft<'a> {
 }
 
 /// Adds the sections of all processes, in order of number.
-pub fn process_sections(plan: &Plan, history: &[Entry], out: &mut Vec<u8>) -> Result<(), AllocError>
+pub fn process_sections(plan: &Plan, history: &Entries, out: &mut Vec<u8>) -> Result<(), AllocError>
     requires few { length history.now < 2 ^ 32 }
     requires few_blocks { length plan.now.parents < 2 ^ 31 }
     requires well_formed { All (λ e. IsWellFormed e.call) history.now }

@@ -5,19 +5,21 @@ ghost use Rattle.vm_script.specs.vm_types.WellFormed.{IsWellFormed};
 ghost use Rattle.vm_script.specs.vm_types.declared.call.Entry.{Entry as EntrySeen};
 ghost use Rattle.vm_script.specs.flat_model.Told.{entries_of};
 ghost use Rattle.vm_script.specs.Told.{is_birth};
+ghost use Rattle.entry_list.specs.Rows.{entry_seen};
 ghost use Rattle.vm_report.specs.Groups.{is_born_by};
 ghost use Rattle.vm_report.specs.PiecesInside.{IsLeftOf, lines_left};
 ghost use Rattle.vm_report.specs.Report as report;
 ghost use Rattle.vm_report.specs.Runs.{AreWithin, entries_left, runs_seen};
 
-use crate::cursors::{Cursor, first_place, pass, take_call};
+use crate::cursors::{Cursor, ends_call_at, first_place, pass, take_call};
 use crate::line_results::push_line_result;
 use crate::quick::{push_loaded, push_stored};
 use crate::results::word_of_call;
 use crate::runs::Runs;
 use crate::text::{end_line, push_number, push_space, push_text};
+use entry_list::{Entries, EntryAt, EntrySlice};
 use std::alloc::{AllocError, Global};
-use vm_script::{Call, Entry, Plan, PlanAct, PlanLine, Reply, ends_call};
+use vm_script::{Call, Entry, Plan, PlanAct, PlanLine, Reply};
 
 fn word_of_act(act: &PlanAct) -> &'static [u8]
     ensures { result.now ≡ report.act_word act.now }
@@ -58,24 +60,22 @@ fn is_store(act: &PlanAct) -> bool
 
 // How many of the entries belong to the call that the first one begins; None where none of them ends
 // it.
-fn call_length(entries: &[Entry]) -> Option<usize>
+fn call_length(entries: &EntrySlice<'_>) -> Option<usize>
     requires well_formed { All (λ e. IsWellFormed e.call) entries.now }
     ensures made { IfSome result (λ count. (behind : List EntrySeen)
         → count ≡ report.call_length (entries.now ++ behind)) }
     ensures inside { IfSome result (λ count. count ≤ length entries.now) }
 {
-    let mut count = 0;
-    for entry in entries {
-        count += 1;
-        if ends_call(&entry.call, &entry.reply) {
-            return Some(count);
+    for place in 0..entries.len() {
+        if ends_call_at(entries.at(place)) {
+            return Some(place + 1);
         }
     }
     None
 }
 
 // Adds a line's own line.
-fn push_line(out: &mut Vec<u8>, line: &PlanLine, entries: &[Entry]) -> Result<(), AllocError>
+fn push_line(out: &mut Vec<u8>, line: &PlanLine, entries: &EntrySlice<'_>) -> Result<(), AllocError>
     requires few { length entries.now < 2 ^ 32 }
     requires well_formed { All (λ e. IsWellFormed e.call) entries.now }
     ensures { OnOk result (out.new.items
@@ -94,12 +94,12 @@ fn push_line(out: &mut Vec<u8>, line: &PlanLine, entries: &[Entry]) -> Result<()
 fn push_call<'a>(
     out: &mut Vec<u8>,
     line: &PlanLine,
-    history: &'a [Entry],
+    history: &'a Entries,
     runs: &Runs,
     at: Cursor<'a>,
 ) -> Result<Cursor<'a>, AllocError>
     requires within { AreWithin (length history.now) runs.now }
-    requires whole { at.front.now ≡ [] → entries_left history.now runs.now at ≡ [] }
+    requires whole { at.front ≡ [] → entries_left history.now runs.now at ≡ [] }
     requires few { length (entries_left history.now runs.now at) < 2 ^ 32 }
     requires well_formed { All (λ e. IsWellFormed e.call) (entries_left history.now runs.now at) }
     // What the line prints, and what is left.
@@ -110,16 +110,16 @@ fn push_call<'a>(
         ≡ drop (report.call_length (entries_left history.now runs.now at.entry))
         (entries_left history.now runs.now at.entry)) }
     ensures whole { IfOk result (λ next.
-        next.front.now ≡ [] → entries_left history.now runs.now next ≡ []) }
+        next.front ≡ [] → entries_left history.now runs.now next ≡ []) }
 {
-    if let Some(count) = call_length(at.front) {
+    if let Some(count) = call_length(&at.front) {
         let (own, _) = at.front.split_at(count);
-        push_line(out, line, own)?;
+        push_line(out, line, &own)?;
         return Ok(pass(history, runs, at, count));
     }
-    let mut call = Vec::new(*out.allocator());
+    let mut call = Entries::new(*out.allocator());
     let left = take_call(history, runs, at, &mut call)?;
-    push_line(out, line, &call)?;
+    push_line(out, line, &call.all())?;
     Ok(left)
 }
 
@@ -128,12 +128,12 @@ fn push_call<'a>(
 fn push_next<'a>(
     out: &mut Vec<u8>,
     line: &PlanLine,
-    history: &'a [Entry],
+    history: &'a Entries,
     runs: &Runs,
     at: Cursor<'a>,
 ) -> Result<Cursor<'a>, AllocError>
     requires within { AreWithin (length history.now) runs.now }
-    requires whole { at.front.now ≡ [] → entries_left history.now runs.now at ≡ [] }
+    requires whole { at.front ≡ [] → entries_left history.now runs.now at ≡ [] }
     requires few { length (entries_left history.now runs.now at) < 2 ^ 32 }
     requires well_formed { All (λ e. IsWellFormed e.call) (entries_left history.now runs.now at) }
     // What the line prints, and what is left.
@@ -144,15 +144,15 @@ fn push_next<'a>(
         ≡ drop (report.entries_made line.now (entries_left history.now runs.now at.entry))
         (entries_left history.now runs.now at.entry)) }
     ensures whole { IfOk result (λ next.
-        next.front.now ≡ [] → entries_left history.now runs.now next ≡ []) }
+        next.front ≡ [] → entries_left history.now runs.now next ≡ []) }
 {
-    if let [entry, ..] = at.front {
-        match (&entry.call, &entry.reply) {
-            (Call::Load { size, .. }, Reply::Word(value)) if is_load(&line.act) => {
-                push_loaded(out, line.line, *size, *value)?;
+    if let Some((entry, _rest)) = at.front.split_first() {
+        match entry {
+            EntryAt::Load { size, word, .. } if is_load(&line.act) => {
+                push_loaded(out, line.line, size, word)?;
                 return Ok(pass(history, runs, at, 1));
             }
-            (Call::Store { .. }, Reply::Done) if is_store(&line.act) => {
+            EntryAt::Store { .. } if is_store(&line.act) => {
                 push_stored(out, line.line)?;
                 return Ok(pass(history, runs, at, 1));
             }
@@ -173,14 +173,14 @@ const LONG: usize = 65_536;
 pub fn push_next_lines<'a>(
     out: &mut Vec<u8>,
     lines: &[&PlanLine],
-    history: &'a [Entry],
+    history: &'a Entries,
     runs: &Runs,
     line: usize,
     place: Cursor<'a>,
 ) -> Result<(usize, Cursor<'a>), AllocError>
     requires within { AreWithin (length history.now) runs.now }
     requires line { line < length lines.now }
-    requires whole { place.front.now ≡ [] → entries_left history.now runs.now place ≡ [] }
+    requires whole { place.front ≡ [] → entries_left history.now runs.now place ≡ [] }
     requires few { length (entries_left history.now runs.now place) < 2 ^ 32 }
     requires well_formed { All (λ e. IsWellFormed e.call)
         (entries_left history.now runs.now place) }
@@ -210,7 +210,7 @@ pub fn push_next_lines<'a>(
 fn push_lines(
     out: &mut Vec<u8>,
     lines: &[&PlanLine],
-    history: &[Entry],
+    history: &Entries,
     runs: &Runs,
 ) -> Result<(), AllocError>
     requires within { AreWithin (length history.now) runs.now }
@@ -246,7 +246,7 @@ fn push_section(
     process: u32,
     born: bool,
     lines: &[&PlanLine],
-    history: &[Entry],
+    history: &Entries,
     runs: &Runs,
 ) -> Result<(), AllocError>
     requires within { AreWithin (length history.now) runs.now }
@@ -272,10 +272,26 @@ fn is_birth(process: u32, entry: &Entry) -> bool
     }
 }
 
-fn is_forked(process: u32, history: &[Entry]) -> bool
+fn is_birth_at(process: u32, entry: EntryAt<'_>) -> bool
+    ensures { result ≡ is_birth process (entry_seen entry.entry) }
+{
+    match entry {
+        EntryAt::Load { .. } | EntryAt::Store { .. } | EntryAt::Read { .. } => false,
+        EntryAt::Whole(entry) => is_birth(process, entry),
+    }
+}
+
+fn is_forked(process: u32, history: &Entries) -> bool
     ensures { result ≡ list_any (is_birth process) history.now }
 {
-    history.iter().any(|e| is_birth(process, e))
+    let mut left = history.all();
+    while let Some((entry, rest)) = left.split_first() {
+        if is_birth_at(process, entry) {
+            return true;
+        }
+        left = rest;
+    }
+    false
 }
 
 /// Whether a process was born: it is a top process, or its fork was done.
@@ -324,21 +340,22 @@ fn push_own_line<'a>(
 }
 
 // Adds an entry of a history to the runs of a process, where it is one of its.
-fn add_own(runs: &mut Runs, process: u32, entry: &Entry, index: u32) -> Result<(), AllocError>
+fn add_own(runs: &mut Runs, process: u32, entry: EntryAt<'_>, index: u32) -> Result<(), AllocError>
     requires { index < 2 ^ 32 - 1 }
     ensures seen { OnOk result ((H : List EntrySeen) → index < length H
-        → entry.now ≡ slice_index_or H index entry.now
-        → runs_seen H runs.new ≡ runs_seen H runs.old ++ entries_of (entry.now ∷ []) process) }
+        → entry_seen entry.entry ≡ slice_index_or H index (entry_seen entry.entry)
+        → runs_seen H runs.new
+        ≡ runs_seen H runs.old ++ entries_of (entry_seen entry.entry ∷ []) process) }
     ensures within { OnOk result ((n : ℕ) → index < n
         → AreWithin n runs.old → AreWithin n runs.new) }
 {
-    if entry.process == process {
+    if entry.process() == process {
         runs.add(index)?;
     }
     Ok(())
 }
 
-fn entries_of_process(alloc: Global, history: &[Entry], process: u32) -> Result<Runs, AllocError>
+fn entries_of_process(alloc: Global, history: &Entries, process: u32) -> Result<Runs, AllocError>
     requires few { length history.now < 2 ^ 32 }
     ensures seen { IfOk result (λ runs.
         runs_seen history.now runs ≡ entries_of history.now process) }
@@ -346,7 +363,7 @@ fn entries_of_process(alloc: Global, history: &[Entry], process: u32) -> Result<
 {
     let mut own = Runs::new(alloc);
     for index in 0..history.len() {
-        add_own(&mut own, process, &history[index], index as u32)?;
+        add_own(&mut own, process, history.at(index), index as u32)?;
     }
     Ok(own)
 }
@@ -356,7 +373,7 @@ fn entries_of_process(alloc: Global, history: &[Entry], process: u32) -> Result<
 pub fn process_section(
     plan: &Plan,
     process: u32,
-    history: &[Entry],
+    history: &Entries,
     out: &mut Vec<u8>,
 ) -> Result<(), AllocError>
     requires few { length history.now < 2 ^ 32 }

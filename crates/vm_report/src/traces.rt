@@ -12,6 +12,7 @@ use crate::text::{
     push_word,
 };
 use bitflags::Flags;
+use entry_list::Entries;
 use std::alloc::AllocError;
 use vm_script::{Call, Entry, Kind, Object, Place, Prot, Reply};
 
@@ -232,12 +233,12 @@ pub fn trace_entry(entry: &Entry, out: &mut Vec<u8>) -> Result<(), AllocError>
     end_line(out)
 }
 
-fn push_entries(history: &[Entry], out: &mut Vec<u8>) -> Result<(), AllocError>
+fn push_entries(history: &Entries, out: &mut Vec<u8>) -> Result<(), AllocError>
     requires { All (λ e. IsWellFormed e.call) history.now }
     ensures { OnOk result (out.new.items ≡ out.old.items ++ flat_map trace.entry_text history.now) }
 {
-    for entry in history {
-        trace_entry(entry, out)?;
+    for place in 0..history.len() {
+        trace_entry(&history.at(place).entry(), out)?;
     }
     Ok(())
 }
@@ -253,7 +254,7 @@ pub fn trace_count(count: u64, out: &mut Vec<u8>) -> Result<(), AllocError>
 }
 
 /// Adds the part of a trace that tells the history: the number of its entries, and a line for each.
-pub fn trace_entries(history: &[Entry], out: &mut Vec<u8>) -> Result<(), AllocError>
+pub fn trace_entries(history: &Entries, out: &mut Vec<u8>) -> Result<(), AllocError>
     requires { All (λ e. IsWellFormed e.call) history.now }
     ensures new { OnOk result (out.new.items ≡ out.old.items ++ trace.entries_text history.now) }
 {

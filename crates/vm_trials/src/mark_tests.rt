@@ -206,10 +206,11 @@ fn is_true(
 ) -> Result<bool, Fail>
     requires { page < 8 }
 {
-    let entries = finished.history.entries();
+    let mut entries = Vec::new(alloc);
+    finished.history.entries().push_to(&mut entries)?;
     match mark {
-        Mark::Held(front) => had_page(alloc, entries, front, page, bytes),
-        Mark::Blank(front) => had_page(alloc, entries, front, page, &[0; 4096]),
+        Mark::Held(front) => had_page(alloc, &entries, front, page, bytes),
+        Mark::Blank(front) => had_page(alloc, &entries, front, page, &[0; 4096]),
         Mark::Unsure {
             entries: front,
             before,
@@ -316,6 +317,8 @@ fn wrong_mark(
     let Some((0, disk)) = finished.disks.first() else {
         return Err(Fail::new("disk 0 came back"));
     };
+    let mut entries = Vec::new(alloc);
+    finished.history.entries().push_to(&mut entries)?;
     for page in 0..5u32 {
         let (Some(mark), Some(block)) = (
             marks[page as usize],
@@ -324,7 +327,7 @@ fn wrong_mark(
             return Err(Fail::new("the page has a mark and a block"));
         };
         if !is_true(alloc, finished, page, mark, &block.bytes)?
-            || !reaches_all(finished.history.entries(), page, mark)
+            || !reaches_all(&entries, page, mark)
         {
             return Ok(Some((page, mark)));
         }

@@ -24,10 +24,10 @@ pub use stored_files::{
     Heading, PageDisk, ShowStop, TableStop, show_files, trace_opening, write_tables,
 };
 pub use vm_report::{
-    Call, Entry, MOST_BYTES, Plan, PlanAct, PlanLine, Reply, ScriptFault, SectionsLeft, SetupAct,
-    SetupLine, amounts_of, broken_rule, disk_fault, generate, parse, parts, process_sections,
-    rack_fault, read_fault, script_fault, setup_fault, setup_law, sound_law, summary,
-    trace_entries, usage, volume_fault,
+    Call, Entries, Entry, MOST_BYTES, Plan, PlanAct, PlanLine, Reply, ScriptFault, SectionsLeft,
+    SetupAct, SetupLine, amounts_of, broken_rule, disk_fault, generate, parse, parts,
+    process_sections, rack_fault, read_fault, script_fault, setup_fault, setup_law, sound_law,
+    summary, trace_entries, usage, volume_fault,
 };
 pub use volume_disks::Single;
 pub use volume_format::Files;

@@ -1,8 +1,10 @@
-use Rattle.std.proofs.Common.{ℕ, ◌<◌}
-use Rattle.std.specs.Prelude.{slice_index_or}
-use Rattle.volume_files.specs.vm_types.declared.call.Entry.{Entry}
+use Rattle.std.proofs.Common.{length}
+use Rattle.std.specs.Prelude.{All}
 use Rattle.printed_traces.specs.Printed.{HasToldCounts}
 use Rattle.printed_traces.proofs.counts.counts_law.Given as goal
 
 abbrev pub invariant-loop-entry : goal.invariant-loop-entry
-invariant-loop-entry l = (i : ℕ) (d : Entry) → i < l.entry-index → HasToldCounts (slice_index_or l.fn.history i d).reply
+invariant-loop-entry l = All (λ e. HasToldCounts e.reply) l.left → All (λ e. HasToldCounts e.reply) l.history
+
+abbrev pub decreases-loop-entry : goal.decreases-loop-entry
+decreases-loop-entry l = length l.left

@@ -14,10 +14,10 @@ loop-run-smaller c =
 pub loop-run-preserved : goal.loop-run-preserved
 loop-run-preserved c = record {
   left =
-      next-left c.args.history.now c.args.runs.now c.loop-run.at.next c.in-Some.run' c.loop-run.at.front.now c.entries_of_run.result.now
-      (empty_is c.loop-run.at.front.now c.is_empty.result c.loop-run-test.true c.is_empty.ensures) (sym c.in-Some.ensures.run)
+      next-left c.args.history.now c.args.runs.now c.loop-run.at.next c.in-Some.run' c.loop-run.at.front c.entries_of_run.result
+      (empty_is c.loop-run.at.front c.is_empty.result c.loop-run-test.true c.is_empty.ensures) (sym c.in-Some.ensures.run)
       c.entries_of_run.ensures ∙ c.loop-run.invariant.left;
 }
 
 pub returns-in_default-clause-whole : goal.returns-in_default-clause-whole
-returns-in_default-clause-whole c = λ none. none-left c.args.history.now c.args.runs.now c.loop-run.at.next c.loop-run.at.front.now none (sym c.get.ensures.run ∙ c.in_default.is)
+returns-in_default-clause-whole c = λ none. none-left c.args.history.now c.args.runs.now c.loop-run.at.next c.loop-run.at.front none (sym c.get.ensures.run ∙ c.in_default.is)

@@ -1,7 +1,9 @@
-use Rattle.std.proofs.Common.{◌∙◌, ◌++◌, List, map, length, ap, sym, arith}
+use Rattle.std.proofs.Common.{◌≡◌, ◌∙◌, ◌<◌, ◌++◌, ℕ, List, map, length, ap, sym, arith}
 use Rattle.std.proofs.lemmas.List.{length-map, length-replicate}
+use Rattle.std.proofs.lemmas.Option.{get_or_from_slice_get}
 use Rattle.vm_script.specs.vm_types.declared.call.Entry.{Entry}
 use Rattle.vm_script.specs.flat_model.Told.{entries_of}
+use Rattle.entry_list.specs.Rows.{entry_seen}
 use Rattle.vm_report.specs.Groups.{with_member}
 use Rattle.vm_report.specs.Runs.{no_runs, runs_seen}
 use Rattle.vm_report.specs.declared.runs.Run.{Run}
@@ -21,17 +23,17 @@ loop-index-init c =
 pub loop-index-preserved : goal.loop-index-preserved
 loop-index-preserved c =
     let H = c.args.history.now in
-    let e = c.index-history-index.result in
+    let e = entry_seen c.at.result in
+    let is = sym (get_or_from_slice_get H c.loop-index.index e e c.at.ensures) in
+    let within : c.loop-index.index < length H = let lt = c.loop-index-test.true in let size = c.len-index-end.ensures in omega (arith, lt, size) in
     let old = c.loop-index.groups.items in
-    let seen =
-    c.in_ok-add_entry.ensures.seen H e c.loop-index-test.true c.index-history-index.is
-    ∙ ap (λ (x : Entry). with_member (map (runs_seen H) old) x.process e) (sym c.index-history-index.is) in
+    let seen = c.in_ok-add_entry.ensures.seen H e within is ∙ ap (λ (p : ℕ). with_member (map (runs_seen H) old) p e) c.process.ensures in
     let kept = member_length (map (runs_seen H) old) _ e.process e seen in
     let before = length-map old (runs_seen H) in
     let after = length-map c.add_entry.new.groups.items (runs_seen H) in
     record {
       count = omega (arith, kept, before, after, c.loop-index.invariant.count);
-      each = λ p lt. member_on (λ (x : Entry). x.process) (map (runs_seen H) old) _ H _ c.loop-index.index e p c.loop-index-test.true c.index-history-index.is seen
+      each = λ p lt. member_on (λ (x : Entry). x.process) (map (runs_seen H) old) _ H _ c.loop-index.index e p within is seen
           (omega (arith, before, c.loop-index.invariant.count, lt)) (c.loop-index.invariant.each p lt);
-      within = c.in_ok-add_entry.ensures.within (length H) c.loop-index-test.true c.loop-index.invariant.within;
+      within = c.in_ok-add_entry.ensures.within (length H) within c.loop-index.invariant.within;
     }

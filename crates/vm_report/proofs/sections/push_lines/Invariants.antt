@@ -12,7 +12,7 @@ invariant-loop-line l = record {
   within : l.line ≤ length l.lines;
   few : length (entries_left l.history l.runs l.place) < 2 ^ 32;
   well_formed : All (λ e. IsWellFormed e.call) (entries_left l.history l.runs l.place);
-  whole : l.place.front.now ≡ [] → entries_left l.history l.runs l.place ≡ [];
+  whole : l.place.front ≡ [] → entries_left l.history l.runs l.place ≡ [];
 }
 
 abbrev pub decreases-loop-line : goal.decreases-loop-line

@@ -5,10 +5,10 @@ use Rattle.vm_report.proofs.sections.push_next_lines.Given as goal
 
 abbrev pub invariant-loop-at : goal.invariant-loop-at
 invariant-loop-at l = record {
-  so_far : l.out.items ++ lines_left l.lines l.at (entries_left l.history l.runs l.left) ≡ l.initial.out.items ++ lines_left l.lines l.line (entries_left l.history l.runs l.place);
+  so_far : l.out.items ++ lines_left l.lines l.at (entries_left l.history l.runs l.left) ≡ l.initial.out.items ++ lines_left l.lines l.line (entries_left l.history l.runs l.fn.place);
   from : l.line ≤ l.at;
   to : l.at ≤ length l.lines;
-  left : IsLeftOf l.history l.runs l.place l.left;
+  left : IsLeftOf l.history l.runs l.fn.place l.left;
 }
 
 abbrev pub decreases-loop-at : goal.decreases-loop-at

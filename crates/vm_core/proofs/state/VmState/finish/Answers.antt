@@ -1,6 +1,6 @@
 use Rattle.std.proofs.Common.{◌≡◌, None, sym, ap, ◌∙◌, subst}
-use Rattle.std.specs.Prelude.{IfNone, IfSome, option_map}
-use Rattle.fault_entry.specs.page_store.Bays.{bay_at, home_faults, pairs_seen}
+use Rattle.std.specs.Prelude.{IfNone, IfSome, MatchOption, option_map}
+use Rattle.fault_entry.specs.page_store.Bays.{bay_at, home, missing, home_faults, pairs_seen}
 use Rattle.fault_entry.specs.page_store.Notes.{no_notes}
 use Rattle.fault_entry.specs.flat_model.Flat.{Flat}
 use Rattle.fault_entry.specs.vm_world.MemoryFits.{MemoryFits}
@@ -37,6 +37,10 @@ pub returns-clause-left : goal.returns-clause-left
 returns-clause-left g c =
     subst (λ (s : KernelState). IfSome c.finish_world.result.fault (λ fault. AllTell s.memory.world no_notes → LeaveAllPages s.memory.world (disks_of s.memory.world) (pairs_seen g.D.Disk.seen c.finish_world.result.disks.items) fault.disk))
     c.self.view_is c.finish_world.ensures.left
+
+pub returns-clause-swap : goal.returns-clause-swap
+returns-clause-swap g c =
+    subst (λ (s : KernelState). MatchOption c.finish_world.result.swap (bay_at s.memory.world.store.bays 8 ≡ missing) (λ disk. bay_at s.memory.world.store.bays 8 ≡ home (g.D.Disk.seen disk))) c.self.view_is c.finish_world.ensures.swap
 
 pub returns-clause-marks : goal.returns-clause-marks
 returns-clause-marks g c =

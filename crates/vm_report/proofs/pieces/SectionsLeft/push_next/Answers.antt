@@ -6,6 +6,7 @@ use Rattle.vm_script.specs.Told.{is_born, own_lines}
 use Rattle.vm_report.specs.Groups.{is_born_by}
 use Rattle.vm_report.specs.Pieces.{TextLeft}
 use Rattle.vm_report.specs.PiecesInside.{left_of, sections_left}
+use Rattle.vm_report.specs.declared.cursors.Cursor.{Cursor}
 use Rattle.vm_report.proofs.Blocks.{born_is}
 use Rattle.vm_report.proofs.LeftSections.{begin_within, below_last, first_left, first_place, lines_of_process, lines_text_on, next_fewer, next_left, seen_count}
 use Rattle.vm_report.proofs.pieces.SectionsLeft.push_next.Goals as goal
@@ -19,8 +20,9 @@ returns-then-self-lines-clause-text c =
     c.index.ensures in
     lines_text_on s.plan.now s.history.now s.births.items s.lines.items s.entries.items c.self.invariant.0 s.process c.self.invariant.1.known c.index-runs.result.now c.index-runs.ensures
     c.members-lines.result.now own c.args.out.now.items c.push_next_lines.new.out.items
-    s.line c.in_ok-self-inside.field-0-0 s.place c.in_ok-self-inside.field-0-1 c.in_ok-self-inside.ensures.text
-    ∙ ap (λ (t : TextLeft). c.args.out.now.items ++ t.text) c.self.view_is
+    s.line c.in_ok-self-inside.field-0-0 c.again.result c.in_ok-self-inside.field-0-1 c.in_ok-self-inside.ensures.text
+    ∙ (ap (λ (p : Cursor). c.args.out.now.items ++ (sections_left s.plan.now s.history.now s.process s.line (left_of s.history.now s.entries.items s.process p)).text) c.again.ensures
+    ∙ ap (λ (t : TextLeft). c.args.out.now.items ++ t.text) c.self.view_is)
 
 -- THE NEXT SECTION, whose heading was added.
 below : (c : After-first_place-self-inside) → c.self.inside.process < length c.self.inside.plan.now.parents
