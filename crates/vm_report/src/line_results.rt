@@ -28,6 +28,18 @@ fn push_failure_of(out: &mut Vec<u8>, entry: &Entry) -> Result<(), AllocError>
     push_result(out, &entry.call, &entry.reply)
 }
 
+// The same of an entry of a list: what is kept short was neither refused nor met a device error.
+fn push_failure_at(out: &mut Vec<u8>, entry: EntryAt<'_>) -> Result<(), AllocError>
+    requires { IsWellFormed (entry_seen entry).call }
+    ensures { OnOk result (out.new.items
+        ≡ out.old.items ++ results.failure_of (entry_seen entry.entry)) }
+{
+    match entry {
+        EntryAt::Whole(entry) => push_failure_of(out, entry),
+        EntryAt::Load { .. } | EntryAt::Store { .. } | EntryAt::Read { .. } => Ok(()),
+    }
+}
+
 // Where the last part was refused or met a device error, adds that.
 fn push_failure(out: &mut Vec<u8>, entries: &EntrySlice<'_>) -> Result<(), AllocError>
     requires well_formed { All (λ e. IsWellFormed e.call) entries.now }
@@ -37,7 +49,7 @@ fn push_failure(out: &mut Vec<u8>, entries: &EntrySlice<'_>) -> Result<(), Alloc
     if entries.is_empty() {
         return Ok(());
     }
-    push_failure_of(out, &entries.at(entries.len() - 1).entry())
+    push_failure_at(out, entries.at(entries.len() - 1))
 }
 
 fn bytes_of_line(line: &Line) -> &[u8]
@@ -144,6 +156,39 @@ fn bytes_written(entries: &EntrySlice<'_>) -> u64
     count
 }
 
+// Adds the result of a read that made these entries.
+fn push_read_result(out: &mut Vec<u8>, entries: &EntrySlice<'_>) -> Result<(), AllocError>
+    requires few { length entries.now < 2 ^ 32 }
+    requires well_formed { All (λ e. IsWellFormed e.call) entries.now }
+    ensures { OnOk result (out.new.items
+        ≡ out.old.items ++ results.read_result entries.now) }
+{
+    push_read_bytes(out, entries)?;
+    push_failure(out, entries)
+}
+
+// Adds the result of a line that made these entries, of which the first is kept whole.
+fn push_whole_result(
+    out: &mut Vec<u8>,
+    first: &Entry,
+    entries: &EntrySlice<'_>,
+) -> Result<(), AllocError>
+    requires few { length entries.now < 2 ^ 32 }
+    requires well_formed { All (λ e. IsWellFormed e.call) entries.now }
+    requires first { IsWellFormed first.now.call }
+    ensures { OnOk result (out.new.items
+        ≡ out.old.items ++ results.call_result first.now.call first.now.reply entries.now) }
+{
+    match &first.call {
+        Call::Read { .. } => push_read_result(out, entries),
+        Call::Write { .. } => {
+            push_decimal(out, bytes_written(entries))?;
+            push_failure(out, entries)
+        }
+        _ => push_result(out, &first.call, &first.reply),
+    }
+}
+
 /// Adds the result of a line that made these entries.
 pub fn push_line_result(out: &mut Vec<u8>, entries: &EntrySlice<'_>) -> Result<(), AllocError>
     requires few { length entries.now < 2 ^ 32 }
@@ -154,16 +199,12 @@ pub fn push_line_result(out: &mut Vec<u8>, entries: &EntrySlice<'_>) -> Result<(
     let Some((first, _)) = entries.split_first() else {
         return Ok(());
     };
-    let first = first.entry();
-    match first.call {
-        Call::Read { .. } => {
-            push_read_bytes(out, entries)?;
-            push_failure(out, entries)
+    match first {
+        EntryAt::Whole(first) => push_whole_result(out, first, entries),
+        EntryAt::Read { .. } => push_read_result(out, entries),
+        EntryAt::Load { .. } | EntryAt::Store { .. } => {
+            let first = first.entry();
+            push_result(out, &first.call, &first.reply)
         }
-        Call::Write { .. } => {
-            push_decimal(out, bytes_written(entries))?;
-            push_failure(out, entries)
-        }
-        _ => push_result(out, &first.call, &first.reply),
     }
 }
