@@ -22,6 +22,41 @@ const PUSHED: &[u8] =
 const PUSHED_REPORT: &[u8] =
     b"process 1\n5 map 0x00002000\n6 store ok\n7 map 0x00004000\n8 load 0x41\n9 exit ok\nfile a 1\n00000000 41\n";
 
+// Sixteen processes, of which each is the next one's parent, load from one page of a file. Each but the last one waits for its child then, and makes no call
+// meanwhile; the last one loads from a file on another disk first.
+fn waiters_script(alloc: Global) -> Result<String, AllocError> {
+    let mut script = String::from_str(
+        alloc,
+        "disk 0 blank 8\ndisk 1 blank 8\nfile a rw 0 1 41\nfile b rw 1 1 42\nprocess\nmap 0x2000 4096 r shared a 0\nmap 0x4000 4096 r shared b 0\n",
+    )?;
+    for _ in 0..15 {
+        script.push_str("fork\n")?;
+    }
+    script.push_str("load 0x4000 1\nload 0x2000 1\nend\n")?;
+    for _ in 0..15 {
+        script.push_str("load 0x2000 1\nwait\nend\n")?;
+    }
+    Ok(script)
+}
+
+fn waiters_report(alloc: Global) -> Result<String, AllocError> {
+    let mut report = String::from_str(
+        alloc,
+        "process 1\n6 map 0x00002000\n7 map 0x00004000\n8 fork 2\n68 load 0x41\n70 exit ok\n",
+    )?;
+    for process in 2..16u32 {
+        let fork = 7 + process;
+        let back = 26 + 3 * (15 - process);
+        let child = process + 1;
+        report.push_str(&format!(in alloc; "process {process}\n{fork} fork {child}\n")?)?;
+        report.push_str(&format!(in alloc; "{back} load 0x41\n{} exit ok\n", back + 2)?)?;
+    }
+    report.push_str(
+        "process 16\n23 load 0x42\n24 load 0x41\n25 exit ok\nfile a 1\n00000000 41\nfile b 1\n00000000 42\n",
+    )?;
+    Ok(report)
+}
+
 // Whether a transfer ended before what it waited for had begun.
 fn was_late(outcome: &Outcome<GatedDisk<'_>>) -> bool {
     outcome.disks.iter().any(|disk| disk.was_late)
@@ -82,5 +117,33 @@ fn a_push_of_the_daemon_begins_during_a_read(rt: HostRuntime) -> Result<(), Fail
     )?;
     assert_eq!(rt; (status, late), (0, false));
     assert_eq!(rt; text.as_slice(), PUSHED_REPORT);
+    Ok(())
+}
+
+// Many wait for a page, whose read ends once the last one reads from another disk. The end of the read wakes one of them; a load that goes on then tells
+// nothing, but passes the wake-up on, and there is nobody else who would: so the run ends only where each does.
+#[test]
+fn each_who_waits_for_a_page_is_woken(rt: HostRuntime) -> Result<(), Fail> {
+    let alloc = rt.alloc();
+    let (one, two) = (Event::new(), Event::new());
+    let first = Gate::Read {
+        begun: &one,
+        until: &two,
+    };
+    let second = Gate::Read {
+        begun: &two,
+        until: &two,
+    };
+    let script = waiters_script(alloc)?;
+    let report = waiters_report(alloc)?;
+    let (status, late, text) = run_gated(
+        &rt,
+        alloc,
+        NO_WORDS,
+        script.as_bytes(),
+        (first, 1, second),
+    )?;
+    assert_eq!(rt; (status, late), (0, false));
+    assert_eq!(rt; text.as_slice(), report.as_bytes());
     Ok(())
 }
