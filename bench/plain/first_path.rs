@@ -318,7 +318,7 @@ fn main() -> ExitCode {
         return ExitCode::from(5);
     }
     let Some(plan) = plan(&text) else {
-        println!("script: later");
+        println!("script: line");
         return ExitCode::from(3);
     };
     let mut disk = Disk { blocks: vec![[0; PAGE]; plan.blocks as usize] };

@@ -94,8 +94,8 @@ fn old_disk(alloc: Global) -> Result<Vec<Block>, AllocError> {
     Ok(blocks)
 }
 
-// The disk of the first path is mounted again, and then its like with a table of version 1: the table tells the file, and a
-// table of version 2 is written.
+// The disk of the first path is mounted again: its file is read, and mapped; and then its like with a table of version 1: the
+// table tells the file, and a table of version 2 is written.
 #[test]
 fn a_disk_that_was_closed_is_mounted_again(rt: HostRuntime) -> Result<(), Fail> {
     let alloc = rt.alloc();
@@ -103,6 +103,13 @@ fn a_disk_that_was_closed_is_mounted_again(rt: HostRuntime) -> Result<(), Fail> 
     let Some(closed) = left.disks.pop() else {
         return Err(Fail::new("the disk came back"));
     };
+    let read = b"disk 0 path v\nprocess\nread a 0 16\nend\n";
+    let shown = run_kept(&rt, alloc, NO_WORDS, read, &NEVER, &closed)?;
+    assert_eq!(rt; shown.status, 0);
+    assert_eq!(rt;
+        shown.text.as_slice(),
+        b"process 1\n3 read 5 4a656c6c6f\n4 exit ok\nfile a 5\n00000000 4a656c6c6f\n".as_slice()
+    );
     let again = b"disk 0 path v\nprocess\nmap 0x2000 4096 r shared a 0\nload 0x2000 1\nend\n";
     let mut table = [0; 4096];
     put_words(&mut table, &TABLE);
