@@ -11,6 +11,5 @@ pub mod kernel;
 mod sent;
 pub mod starting;
 mod steps;
-pub mod threads;
 pub mod turn;
 mod visits;
