@@ -60,7 +60,7 @@ def page_life():
     p.box(680, 285, 150, 56, 'given up', 'its frame comes free', kind='soft')
     p.path('M105 165L105 36L755 36L755 68')
     p.text(430, 28, 'begin of a read: a free or cached frame is taken', 'small')
-    p.arrow(180, 182, 368, 104, 'fill_zero, copy', (262, 128), 'end')
+    p.arrow(180, 182, 368, 104, 'fill_zero, fill_from, copy', (262, 128), 'end')
     p.arrow(520, 88, 678, 88, 'begin of a push *', (599, 80))
     p.arrow(680, 110, 522, 110, 'end', (599, 127))
     p.arrow(425, 126, 425, 283, 'release', (417, 210), 'end')
@@ -99,7 +99,7 @@ def fault():
         p.box(x, 310, w, 46, *lines)
         p.arrow(541 + (x + w / 2 - 541) * 0.16, 258, x + w / 2, 308)
     p.arrow(730, 310, 730, 260)
-    p.box(650, 190, 160, 68, 'translation loaded', 'a store to a private', 'place copies the page')
+    p.box(650, 190, 160, 68, 'translation loaded', 'a private store copies', "what it doesn't own alone")
     p.arrow(745, 190, 745, 78)
     p.box(225, 400, 335, 46, 'a frame to be had?', 'free, or cached, or the victim is clean')
     p.arrow(300, 356, 300, 398)
@@ -115,7 +115,7 @@ def fault():
     p.path('M105 536L105 562', tip=False)
     p.path('M300 536L300 562', tip=False)
     p.path('M485 536L485 562L12 562L12 53L28 53')
-    p.text(295, 582, 'the same call again, from its beginning', 'small')
+    p.text(295, 582, 'the same call again, from its beginning; where the disk is out, once it is home', 'small')
     p.save()
 
 
@@ -130,7 +130,7 @@ def cell():
     p.box(490, 240, 300, 56, 'nothing', 'a signal: BUS past', kind='soft')
     p.arrow(280, 100, 488, 58, 'has an own page', (376, 66))
     p.arrow(280, 156, 488, 167, 'has none', (376, 152))
-    p.arrow(280, 205, 488, 266, 'has none, and its file', (352, 262))
+    p.arrow(280, 205, 488, 266, 'has none, and its object', (352, 262))
     p.text(352, 278, 'ends before that page', 'small')
     p.arrow(640, 140, 640, 88, 'first private store copies', (650, 118), 'start')
     p.save()
@@ -217,7 +217,8 @@ def marks():
 
 
 SAYS = {
-    'sunvm': 'the program', 'vm_script': 'plans', 'vm_report': 'texts', 'trace_text': 'traces read', 'volume_format': 'block 0', 'kernel_lock': 'one holder', 'vm_core': 'events', 'kernel_close': 'disks come out', 'clock_hands': 'hands move', 'vm_kernel': "threads' calls",
+    'sunvm': 'the program', 'vm_script': 'plans', 'vm_report': 'texts', 'trace_text': 'traces read', 'trace_check': 'traces judged', 'printed_traces': 'a law on them',
+    'block_runs': 'lines, by threads', 'lane_driver': 'given turns', 'seg_map': 'parts of files', 'volume_format': 'block 0', 'kernel_lock': 'one holder', 'vm_core': 'events', 'kernel_close': 'disks come out', 'clock_hands': 'hands move', 'vm_kernel': "threads' calls",
     'fault_entry': 'loads, stores', 'mmap_calls': 'mappings', 'proc_calls': 'fork, exit', 'file_calls': 'files', 'seg_vn': 'segments', 'home_pages': 'pages come home', 'seg_ops': 'small steps',
     'vm_world': "state's meaning", 'page_store': 'pages by name', 'anon_slots': 'counts', 'anon_map': 'arrays', 'hat_layer': 'translations',
     'addr_space': 'pieces', 'core_arena': 'frames', 'page_hash': 'names', 'page_lists': 'free, cached', 'page_lock': 'holders, bits',
@@ -229,16 +230,13 @@ SAYS = {
     'run_outcome': 'how it ended', 'run_kernel': 'start, close', 'plan_runs': 'lines made', 'run_opening': 'ready to run', 'joined_disk': 'two as one', 'volume_disks': 'one or two',
 }
 WIDE, HIGH, GAP, STEP = 116, 46, 12, 88
-# of the crates that sunvm's line names these are for its tests alone
-TESTED = {'flat_state'}
 
 
 def stands_on():
     """Each crate that isn't of tests or timed, with those that it stands on, less those that one of these brings along; and the program's."""
     lines = [line.split('#')[0].split(':') for line in open(os.path.join(HERE, '../../crates.txt'))]
     all_of = {line[0].split()[0]: line[1].split() for line in lines if len(line) > 1}
-    all_of = {crate: [it for it in below if it in all_of and not (crate == 'sunvm' and it in TESTED)]
-              for crate, below in all_of.items() if not crate.startswith('bench_') and not crate.endswith('_trials')}
+    all_of = {crate: [it for it in below if it in all_of] for crate, below in all_of.items() if not crate.startswith('bench_') and not crate.endswith('_trials')}
 
     def reach(crate):
         return set(all_of[crate]).union(*map(reach, all_of[crate]))
@@ -341,7 +339,7 @@ def layers():
             p.path('M' + 'L'.join([*way, f'{x[to]} {top(rows[to]) - 2}']))
     for crate, row in rows.items():
         p.box(x[crate] - WIDE / 2, top(row), WIDE, HIGH, crate, *filter(None, [SAYS.get(crate)]), kind='box' if crate in program else 'soft')
-    p.text(p.width / 2, top(max(rows.values())) + HIGH + 28, 'an arrow leads to what a crate stands on; dashed: not in the program', 'small')
+    p.text(p.width / 2, top(max(rows.values())) + HIGH + 28, 'an arrow leads to what a crate stands on' + ('' if set(rows) <= program else '; dashed: not in the program'), 'small')
     p.save()
 
 
