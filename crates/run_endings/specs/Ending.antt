@@ -22,6 +22,12 @@ ending_of halt.Memory = ending.Memory
 ending_of (halt.Refused r) = ending.Refused r
 ending_of (halt.Failed f) = ending.Opening f
 
+-- The whole report, or want of memory.
+abbrev pub IsQuiet : Ending → Type 0
+IsQuiet ending.Whole = Unit {0}
+IsQuiet ending.Memory = Unit {0}
+IsQuiet how = ⊥
+
 -- The status of a check: 0 and 9 tell a verdict.
 abbrev pub trace_status : TraceEnd → ℕ
 trace_status (ends.Told (answer.Verdict (verdict.Legal n))) = 0

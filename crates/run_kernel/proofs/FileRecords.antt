@@ -1,5 +1,5 @@
 -- The records of files that come back, and whether their disks told at the start.
-use Rattle.std.proofs.Common.{◌≡◌, ℕ, suc, ◌<◌, ◌≤◌, Bool, true, false, cond, List, [], ◌∷◌, length, map, refl, sym, ap, ◌∙◌, subst, arith}
+use Rattle.std.proofs.Common.{◌≡◌, ℕ, suc, ◌<◌, ◌≤◌, List, [], ◌∷◌, length, map, refl, sym, ap, ◌∙◌, subst, arith}
 use Rattle.std.proofs.lemmas.List.{get_or-map, length-map}
 use Rattle.vm_core.specs.page_store.Notes.{no_notes}
 use Rattle.volume_files.specs.vm_types.declared.call.Entry.{Entry}
@@ -9,10 +9,9 @@ use Rattle.volume_files.specs.vnode_files.Vnode.{VnodeSeen, no_vnode}
 use Rattle.volume_files.specs.volume_format.Table.{no_entry}
 use Rattle.volume_files.specs.flat_model.Flat.{File, Flat}
 use Rattle.volume_files.specs.flat_model.History.{Legal, replay}
-use Rattle.volume_files.specs.flat_model.Parts.{without_tail}
-use Rattle.volume_files.specs.flat_model.Step.{is_bit_set, files_cleared}
+use Rattle.volume_files.specs.flat_model.Shapes.{blank_file}
 use Rattle.volume_files.specs.flat_model.Words.{Page}
-use Rattle.vm_core.specs.vm_world.Events.{IsSince}
+use Rattle.vm_core.specs.vm_world.Events.{FollowsHistory, IsSince}
 use Rattle.vm_core.specs.vm_world.FlatMemory.{files_with_pages, flat_memory}
 use Rattle.vm_core.specs.vm_world.HistoryFits.{HistoryFits}
 use Rattle.vm_core.specs.vm_world.Opening.{no_seats}
@@ -43,17 +42,11 @@ in-flat : (page : ℕ → ℕ → Page) (k : ℕ) (infos : List FileInfo) → in
 in-flat page k [] = refl
 in-flat page k (info ∷ infos) = ap (λ (is : List FileInfo). info ∷ is) (in-flat page (suc k) infos)
 
--- tails are in no record
-tail-none : (name : List ℕ) (b : Bool) (file : File) → info_in_flat name (cond b (without_tail file) file) ≡ info_in_flat name file
-tail-none name true file = refl
-tail-none name false file = refl
-
-infos-cleared : (test : ℕ → Bool) (names : List (List ℕ)) (files : List File) → infos_in_flat names (files_cleared test files) ≡ infos_in_flat names files
-infos-cleared test [] files = refl
-infos-cleared test (name ∷ names) [] = refl
-infos-cleared test (name ∷ names) (file ∷ files) =
-    ap (λ (i : FileInfo). i ∷ infos_in_flat names (files_cleared (λ f. test (suc f)) files)) (tail-none name (test 0) file)
-    ∙ ap (λ (is : List FileInfo). info_in_flat name file ∷ is) (infos-cleared (λ f. test (suc f)) names files)
+-- bytes are in no record
+infos-blank : (names : List (List ℕ)) (files : List File) → infos_in_flat names (map blank_file files) ≡ infos_in_flat names files
+infos-blank [] files = refl
+infos-blank (name ∷ names) [] = refl
+infos-blank (name ∷ names) (file ∷ files) = ap (λ (is : List FileInfo). info_in_flat name file ∷ is) (infos-blank names files)
 
 -- the record of a file among all
 pub record-at : (files : FilesSeen) (k : ℕ) → k < length files.files → info_at (map (λ (v : VnodeSeen). v.info) files.files) k ≡ (vnode_at files k).info
@@ -81,15 +74,15 @@ module _ (F : Flat) (s t : KernelState) (l : LeftSeen) (since : IsSince s t no_s
   pub legal-left : HaveTold (bare_disks l.disks) l.swap → Legal F l.history.entries
   legal-left told = subst (Legal F) (sym c.entries) (history-left told).legal
 
-  pub infos-left : HaveTold (bare_disks l.disks) l.swap → infos_made l.files ≡ infos_in_flat (map (λ (v : VnodeSeen). v.info.name) l.files.files) (replay F l.history.entries).files
-  infos-left told =
-      let fits = history-left told in
+  pub infos-left : FollowsHistory F t → infos_made l.files ≡ infos_in_flat (map (λ (v : VnodeSeen). v.info.name) l.files.files) (replay F l.history.entries).files
+  infos-left follows =
       let names = map (λ (v : VnodeSeen). v.info.name) l.files.files in
       let made = map (λ (v : VnodeSeen). v.info) t.memory.world.files.files in
       let page = (contents_of t.memory.world no_notes).file in
       c.files.infos
       ∙ sym (in-flat page 0 made)
       ∙ sym (ap (λ (ns : List (List ℕ)). infos_in_flat ns (files_with_pages page 0 made)) (names-by l.files.files ∙ ap (map (λ (i : FileInfo). i.name)) c.files.infos))
-      ∙ ap (λ (G : Flat). infos_in_flat names G.files) fits.shows
-      ∙ infos-cleared (is_bit_set t.pending) names (replay F t.history).files
+      ∙ sym (infos-blank names (files_with_pages page 0 made))
+      ∙ ap (λ (G : Flat). infos_in_flat names G.files) (follows.shape no_notes)
+      ∙ infos-blank names (replay F t.history).files
       ∙ ap (λ (H : List Entry). infos_in_flat names (replay F H).files) (sym c.entries)

@@ -200,20 +200,27 @@ module _ (F : Flat) (s t : KernelState) (l : LeftSeen) (since : IsSince s t no_s
       home-same x y is = cc
 
   pub reached-left : (k : ℕ) (e : Entry) (number low high : ℕ) → slice_get l.history.entries k ≡ Some e → e.reply ≡ Io number low high
-      → (d : DiskSeen) × IsDiskOf l.disks l.swap number d × (high ≤ d.faults)
+      → (count : ℕ) × (slice_index_or l.history.faults number None ≡ Some count) × (high ≤ count) × ((d : DiskSeen) × IsDiskOf l.disks l.swap number d × (count ≤ d.faults))
   reached-left k e number low high at reply =
       let r = event_law.counted F t no_seats k e number low high after (sym (ap (λ (H : List Entry). slice_get H k) c.entries) ∙ at) reply in
       by_bay (bay_at t.memory.world.store.bays number) refl r.count r.there r.enough
     where
       by_bay : (b : BaySeen) → bay_at t.memory.world.store.bays number ≡ b → (count : ℕ) → faults_in b no_notes ≡ Some count → high ≤ count
-          → (d : DiskSeen) × IsDiskOf l.disks l.swap number d × (high ≤ d.faults)
+          → (told : ℕ) × (slice_index_or l.history.faults number None ≡ Some told) × (high ≤ told) × ((d : DiskSeen) × IsDiskOf l.disks l.swap number d × (told ≤ d.faults))
       by_bay missing is count there enough = absurd (cc)
       by_bay (out seat) is count there enough = absurd (cc)
       by_bay (home d) is count there enough =
-          let x = comes-back number d is in
-          let more = x.2 in
           let same : d.faults ≡ count = some-inj d.faults count there in
-          (x.0, x.1, omega (arith, more, same, enough))
+          (d.faults, c.counts number ∙ ap home_faults is, omega (arith, same, enough), comes-back number d is)
+
+  -- the swap disk's count
+  pub swap-count : slice_index_or l.history.faults 8 None ≡ option_map (λ (d : DiskSeen). d.faults) l.swap
+  swap-count = c.counts 8 ∙ by_swap l.swap c.swap
+    where
+      by_swap : (o : Option DiskSeen) → MatchOption o (bay_at t.memory.world.store.bays 8 ≡ missing) (λ disk. bay_at t.memory.world.store.bays 8 ≡ home disk)
+          → home_faults (bay_at t.memory.world.store.bays 8) ≡ option_map (λ (d : DiskSeen). d.faults) o
+      by_swap None none = ap home_faults none
+      by_swap (Some d) is = ap home_faults is
 
   -- THE FAULT
   pub fault-left : IfSome l.fault (IsClosingFault l)

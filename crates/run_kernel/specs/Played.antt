@@ -122,18 +122,18 @@ pub record KernelLeaves (F : Flat) (s : KernelState) (l : LeftSeen) : Type 0 whe
   pub few : length l.history.entries < 2 ^ 32
   pub counted : Counted l.history.entries
   pub reached : (k : ℕ) (e : Entry) (number before after : ℕ) → slice_get l.history.entries k ≡ Some e → e.reply ≡ Io number before after
-      → (d : DiskSeen) × IsDiskOf l.disks l.swap number d × (after ≤ d.faults)
+      → (count : ℕ) × (slice_index_or l.history.faults number None ≡ Some count) × (after ≤ count) × ((d : DiskSeen) × IsDiskOf l.disks l.swap number d × (count ≤ d.faults))
   pub modes : map mode_of l.files.files ≡ map mode_of s.memory.world.files.files
   pub lie : LieWell l.files
   pub have : HaveDisks l.files l.disks
   pub extents : HaveExtents (infos_made l.files)
-  pub infos : HaveTold (bare_disks l.disks) l.swap
-      → infos_made l.files ≡ infos_in_flat (map (λ (v : VnodeSeen). v.info.name) l.files.files) (replay F l.history.entries).files
+  pub infos : infos_made l.files ≡ infos_in_flat (map (λ (v : VnodeSeen). v.info.name) l.files.files) (replay F l.history.entries).files
   pub stored : IfNone l.fault (HaveTold (bare_disks l.disks) l.swap → StoreFiles l.disks (infos_made l.files) (flat_bytes (replay F l.history.entries).files))
   pub fronts : HaveTold (bare_disks l.disks) l.swap → HoldFronts F l.history.entries l.disks
   pub unkept : HaveTold (bare_disks l.disks) l.swap → HaveUnkept (replay F l.history.entries) (disks_of s.memory.world) l.disks
   pub places : HaveTold (bare_disks l.disks) l.swap → (name : PageName) (disk block : ℕ) → disk_place (replay F l.history.entries) name ≡ Some (disk, block) → 1 ≤ block
   pub fault : IfSome l.fault (IsClosingFault l)
   pub counts : (i : ℕ) (d : ℕ × DiskSeen) → slice_get l.disks i ≡ Some d → (count : ℕ) × (slice_index_or l.history.faults d.0 None ≡ Some count) × (count ≤ d.1.faults)
+  pub swapped : slice_index_or l.history.faults 8 None ≡ option_map (λ (d : DiskSeen). d.faults) l.swap
   pub disks : DisksCameBack (disks_of s.memory.world) l.disks
   pub swap : SwapCameBack (bay_at s.memory.world.store.bays 8) l.swap

@@ -34,21 +34,21 @@ use Rattle.run_input.specs.Asked.{Given, Asked}
 use Rattle.volume_files.specs.Attached.{AttachedSeen, FileDisksTell, bare_disks}
 use Rattle.volume_files.specs.stored_files.Closed.{SayTables, StoreFiles, flat_bytes, info_at, infos_in_flat, mode_in, modes_in, stored_bytes}
 use Rattle.run_opening.specs.Ready.{IsReady}
-use Rattle.run_outcome.specs.Ended.{End, HasLateCause, CountsReach}
+use Rattle.run_outcome.specs.Ended.{End, HasLateCause, CountsReach, HasCountsOf}
 use Rattle.vm_core.specs.vm_world.Events.{IsUnkept}
 use Rattle.volume_files.proofs.DiskCounts.{counts-kinds, kinds-written}
 use Rattle.volume_files.specs.Handed.{kinds_of, HaveTold, HandsAll, HasSpecSize, block_told, volume_numbers, disk_handed, volumes_of, sizes_of}
 use Rattle.volume_files.specs.Opened.{IsVolumeAttached, OpenedFile, infos_of, names_of, opening_flat, setup_volumes, volume_number}
 use Rattle.run_outcome.specs.OnDisks.{AreUnkeptGiven, HoldFronts}
 use Rattle.run_kernel.specs.Played.{IsStarted, KernelLeaves, LeftSeen, IsDiskOf}
-use Rattle.volume_files.specs.stored_files.Written.{infos_made, AreFilesBytes, HaveDisks, KeepsBlocks, WriteTables, WroteTablesTo, disk_sizes}
-use Rattle.run_outcome.specs.Run.{AreClosedBytes, AreOpenedBytes, Begun, ClosesFiles, LeavesFiles, DisksTell, IsOpened, WroteNoTable, WroteTablesBelow, flat_opened, flat_closed}
+use Rattle.volume_files.specs.stored_files.Written.{infos_made, AreFilesBytes, HaveDisks, KeepsBlocks, WriteTables, WroteTablesAt, WroteTablesTo, disk_sizes}
+use Rattle.run_outcome.specs.Run.{AreClosedBytes, AreOpenedBytes, Begun, ClosesFiles, LeavesFiles, DisksTell, IsOpened, WroteNoTable, WroteTablesAlone, WroteTablesBelow, flat_opened, flat_closed}
 use Rattle.volume_files.proofs.DiskLists.{at-map, in-map, mate, number, to-all, zip-back, sizes-by, sizes-written, low-disks, lookup-at}
 use Rattle.run_input.proofs.AskedRules.{asked-rules}
 use Rattle.run_opening.proofs.KeptBytes.{stored-kept}
 use Rattle.run_opening.proofs.KeptFronts.{fronts-kept}
 use Rattle.run_opening.proofs.KeptUnkept.{told-kept}
-use Rattle.run_opening.proofs.RisingNumbers.{lower-before}
+use Rattle.run_opening.proofs.RisingNumbers.{lower-before, same-place}
 use Rattle.run_opening.proofs.SparedLines.{lines-spare}
 use Rattle.run_kernel.proofs.Returned.{swap-serves-still}
 use Rattle.volume_files.proofs.GivenFiles.{comes-sizes}
@@ -174,14 +174,14 @@ module _ (st : ℕ) (ft : Option RunFault) (g : Given) (what : Asked) (files : L
   pub numbers-new : map number new ≡ volume_numbers what.plan
   numbers-new = numbers-old ∙ ready.placed.numbers
 
-  reached : CountsReach what.plan (bare_disks new) l.swap l.history.entries
-  reached k e n before after at io = let x = left.reached k e n before after at io in by_disk x.0 x.1 x.2
+  reached : CountsReach what.plan l.history (bare_disks new) l.swap
+  reached k e n before after at io = let x = left.reached k e n before after at io in (x.0, x.1, x.2, by_disk x.0 x.3.0 x.3.1 x.3.2)
     where
       handed : Bool → Option DiskSeen
       handed eight = if◌then◌else◌ eight l.swap (lookup (λ m. m == n) (volumes_of what.plan (bare_disks new)))
 
-      some : (o : Option DiskSeen) (d : DiskSeen) → o ≡ Some d → after ≤ d.faults → IsSomeAnd o (λ (x : DiskSeen). after ≤ x.faults)
-      some o d is low = subst (λ (p : Option DiskSeen). IsSomeAnd p (λ (x : DiskSeen). after ≤ x.faults)) (sym is) low
+      some : (count : ℕ) (o : Option DiskSeen) (d : DiskSeen) → o ≡ Some d → count ≤ d.faults → IsSomeAnd o (λ (x : DiskSeen). count ≤ x.faults)
+      some count o d is low = subst (λ (p : Option DiskSeen). IsSomeAnd p (λ (x : DiskSeen). count ≤ x.faults)) (sym is) low
 
       apart : (j k : ℕ) (x y : ℕ × DiskSeen) → slice_get new j ≡ Some x → slice_get new k ≡ Some y → x.0 ≡ y.0 → j ≡ k
       apart j k x y xj yk is =
@@ -189,17 +189,30 @@ module _ (st : ℕ) (ft : Option RunFault) (g : Given) (what : Asked) (files : L
           let b = mate new l.disks (sym w.numbers) k y yk in
           left.have.numbers j k a.0 b.0 a.1 b.1 (a.2 ∙ is ∙ sym b.2)
 
-      by_disk : (d : DiskSeen) → IsDiskOf l.disks l.swap n d → after ≤ d.faults → IsSomeAnd (disk_handed what.plan (bare_disks new) l.swap n) (λ (x : DiskSeen). after ≤ x.faults)
-      by_disk d (inr swapped) low = some (disk_handed what.plan (bare_disks new) l.swap n) d (ap handed (subst (λ (m : ℕ). (m == 8) ≡ true) (sym swapped.0) refl) ∙ swapped.1) low
-      by_disk d (inl listed) low =
+      by_disk : (count : ℕ) (d : DiskSeen) → IsDiskOf l.disks l.swap n d → count ≤ d.faults → IsSomeAnd (disk_handed what.plan (bare_disks new) l.swap n) (λ (x : DiskSeen). count ≤ x.faults)
+      by_disk count d (inr swapped) low = some count (disk_handed what.plan (bare_disks new) l.swap n) d (ap handed (subst (λ (m : ℕ). (m == 8) ≡ true) (sym swapped.0) refl) ∙ swapped.1) low
+      by_disk count d (inl listed) low =
           let m = mate l.disks new w.numbers listed.0 (n, d) listed.1 in
           let up = (w.each listed.0 (n, d) m.0 listed.1 m.1).faults in
           let own : m.0 ≡ (n, m.0.1) = ap (λ (j : ℕ). (j, m.0.1)) m.2 in
           let there : slice_get new listed.0 ≡ Some (n, m.0.1) = m.1 ∙ ap Some own in
           let low-number = low-disks what.plan new numbers-new listed.0 (n, m.0.1) there in
-          some (disk_handed what.plan (bare_disks new) l.swap n) m.0.1
+          some count (disk_handed what.plan (bare_disks new) l.swap n) m.0.1
           (ap handed (ne_eqb n 8 (λ eight. omega (arith, eight, low-number))) ∙ ap (lookup (λ m. m == n)) pairs-new ∙ lookup-at n new listed.0 m.0.1 apart there)
           (omega (arith, low, up))
+
+  -- the history's counts are those of the disks
+  counts-told : HasCountsOf what.plan l.history (bare_disks new) l.swap
+  counts-told = record {
+    each = λ i d there.
+        let x : slice_get new i ≡ Some d = ap (λ (ds : List (ℕ × DiskSeen)). slice_get ds i) (sym pairs-new) ∙ there in
+        let m = mate new l.disks (sym w.numbers) i d x in
+        let c = left.counts i m.0 m.1 in
+        let low = c.2 in
+        let more = (w.each i m.0 d m.1 x).faults in
+        subst (λ (o : Option ℕ). IsSomeAnd o (λ count. count ≤ d.1.faults)) (sym (ap (λ (n : ℕ). slice_index_or l.history.faults n None) (sym m.2) ∙ c.1)) (omega (arith, low, more));
+    last = left.swapped;
+  }
 
   -- what a trace of it tells
   traced-text : All (λ (e : Entry). HasToldCounts e.reply) l.history.entries → DisksTell ended
@@ -291,6 +304,7 @@ module _ (st : ℕ) (ft : Option RunFault) (g : Given) (what : Asked) (files : L
     refusals = subst (λ (F : Flat). RefusesAsDue F l.history.entries) flat-same left.refusals;
     counted = left.counted;
     reached = reached;
+    counts = counts-told;
     fronts = λ t. subst (HoldFronts (flat_opened what files (bare_disks new)) l.history.entries) (sym pairs-new) (fronts t);
     unkept = unkept;
   }
@@ -315,7 +329,7 @@ module _ (st : ℕ) (ft : Option RunFault) (g : Given) (what : Asked) (files : L
   pub leaves : l.fault ≡ None → LeavesFiles g what files (infos_made l.files) ended
   leaves none = record {
     modes = modes-left;
-    records = λ t. left.infos (told-left t) ∙ ap (λ ns. infos_in_flat ns (replay (opening_flat plan (disk_sizes a.disks) files) l.history.entries).files) names-left
+    records = left.infos ∙ ap (λ ns. infos_in_flat ns (replay (opening_flat plan (disk_sizes a.disks) files) l.history.entries).files) names-left
         ∙ ap (infos_in_flat (names_of files)) closed-same;
     stored = λ t. subst (λ (d : List (ℕ × DiskSeen)). StoreFiles d (infos_made l.files) (flat_bytes (flat_closed what files (bare_disks new) l.history.entries).files)) (sym pairs-new) (stored none t);
   }
@@ -343,20 +357,42 @@ module _ (st : ℕ) (ft : Option RunFault) (g : Given) (what : Asked) (files : L
     }
 
     -- up to the last disk
-    pub all-tables : SayTables new (infos_made l.files) → WroteTablesBelow g what files (infos_made l.files) 8 ended
+    pub all-tables : SayTables new (infos_made l.files) → WroteTablesAlone g what files (infos_made l.files) 8 ended
     all-tables say = record {
-      left = leaves none;
-      below = λ i d there lower. say i d (ap (λ (ds : List (ℕ × DiskSeen)). slice_get ds i) (sym pairs-new) ∙ there);
-      above = λ t i sp d si di.
+      written = record {
+        left = leaves none;
+        below = λ i d there lower. say i d (ap (λ (ds : List (ℕ × DiskSeen)). slice_get ds i) (sym pairs-new) ∙ there);
+        above = λ t i sp d si di.
+            let given = given-at t i sp d si di in
+            (given.0, given.1, λ block first. let low = (first-unkept t i sp d si di).0 in let high = first.0 in absurd (omega (arith, low, high)));
+      };
+      next = λ t i sp d si di.
           let given = given-at t i sp d si di in
-          (given.0, given.1, λ block first. let low = (first-unkept t i sp d si di).0 in let high = first.0 in absurd (omega (arith, low, high)));
+          (given.0, given.1, λ block first. let low = (first-unkept t i sp d si di).0 in let eight = first.0 in absurd (omega (arith, low, eight)));
     }
 
-    pub some-tables : (place : ℕ) → WroteTablesTo (infos_made l.files) place l.disks new → (n : ℕ) × WroteTablesBelow g what files (infos_made l.files) n ended
+    -- up to a place, and nothing else
+    pub some-tables : (place : ℕ) → WroteTablesAt (infos_made l.files) place l.disks new → (n : ℕ) × WroteTablesAlone g what files (infos_made l.files) n ended
     some-tables place to = by_number (slice_get (volume_numbers what.plan) place) refl
       where
-        by_number : (o : Option ℕ) → slice_get (volume_numbers what.plan) place ≡ o → (n : ℕ) × WroteTablesBelow g what files (infos_made l.files) n ended
-        by_number (Some n) at = (n, tables-below place n at to)
+        by_number : (o : Option ℕ) → slice_get (volume_numbers what.plan) place ≡ o → (n : ℕ) × WroteTablesAlone g what files (infos_made l.files) n ended
+        by_number (Some n) at = (
+          n,
+          record {
+            written = tables-below place n at (record { before = to.before; behind = λ i past. to.behind i (omega (arith, past)) });
+            next = λ t i sp d si di.
+                let given = given-at t i sp d si di in
+                let x = in-map (λ (p : ℕ × DiskSeen). p.1) new i d di in (
+                  given.0,
+                  given.1,
+                  λ block first.
+                      let here = same-place what.plan i place (volume_number sp) n (at-map volume_number (setup_volumes what.plan.setup) i sp si) at first.0 in
+                      subst (λ (b : ℕ). block_told d.content b ≡ block_told given.0.content b) (sym first.1) (given.2 0 (first-unkept t i sp d si di)
+                      (λ y there. let one : x.0 ≡ y = same_Some x.0 y (sym x.1 ∙ to.behind i (omega (arith, here)) ∙ there) in
+                      ap (λ (q : DiskSeen). block_told q.content 0) (sym x.2) ∙ ap (λ (q : ℕ × DiskSeen). block_told q.1.content 0) one)),
+                );
+          },
+        )
         by_number None past = (8, all-tables (λ i d there. to.before i d (before i d there) there))
           where
             before : (i : ℕ) (d : ℕ × DiskSeen) → slice_get new i ≡ Some d → i < place

@@ -59,3 +59,13 @@ lower-before plan i j x y at there lt = elim (cases_lt i j) [
     | inr differ ↦ absurd (let more = rise-at (volume_numbers plan) j i y x (rise-from plan.setup 0 8).1 there at (omega (arith, not, differ)) in omega (arith, lt, more))
   ]
 ]
+
+-- ONE NUMBER stands at one place.
+pub same-place : (plan : PlanSeen) (i j x y : ℕ) → slice_get (volume_numbers plan) i ≡ Some x → slice_get (volume_numbers plan) j ≡ Some y → x ≡ y → i ≡ j
+same-place plan i j x y at there same = elim (cases_eq i j) [
+  | inl is ↦ is
+  | inr differ ↦ elim (cases_lt i j) [
+    | inl before ↦ absurd (let lt = rise-at (volume_numbers plan) i j x y (rise-from plan.setup 0 8).1 at there before in omega (arith, lt, same))
+    | inr not ↦ absurd (let lt = rise-at (volume_numbers plan) j i y x (rise-from plan.setup 0 8).1 there at (omega (arith, not, differ)) in omega (arith, lt, same))
+  ]
+]

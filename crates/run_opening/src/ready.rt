@@ -11,9 +11,9 @@ ghost use Rattle.run_opening.specs.Ready.{IsReady, AreReadBytes, Traces, opening
 ghost use Rattle.run_input.specs.Reading.{IsReadPlan, IsPlayable};
 ghost use Rattle.volume_files.specs.Handed.{AreUncounted, member_count};
 ghost use Rattle.volume_files.specs.Opened.{OpenedFile, numbered_plan};
-ghost use Rattle.run_outcome.specs.Run.{NoneFailed, Outside, outside_of};
+ghost use Rattle.run_outcome.specs.Run.{Outside, UnlessRacked, outside_of};
 ghost use Rattle.run_report.specs.ReportEnds.{UnlessEnded};
-ghost use Rattle.run_endings.specs.declared.ending.Ending.TheVariants.{Memory};
+ghost use Rattle.run_endings.specs.Ending.{IsQuiet};
 ghost use Rattle.volume_files.specs.vm_script.Rules.{broken_rule};
 
 use command_line::Options;
@@ -146,16 +146,18 @@ pub fn ready_plan<K: Sink, R: Rack>(
     ensures back { IfErr result (λ s. (R.seen rack.new).attached ≡ (R.seen rack.old).attached
         + member_count (map (joined_seen (single_seen R.D.seen)) s.disks.items)
         (option_map (joined_seen (single_seen R.D.seen)) s.swap)) }
-    // Where it is ready, or memory lacked, none counted a fault.
+    // Where it is ready, none counted a fault.
     ensures served { IfOk result (λ _.
         ((R.seen rack.new).faults ≡ (R.seen rack.old).faults)
         × ((K.seen out.new).faults ≡ (K.seen out.old).faults)) }
     ensures uncounted { IfOk result (λ r.
         AreUncounted (bare_disks (attached_seen (joined_seen (single_seen R.D.seen)) r.placed.attached).disks)
         (attached_seen (joined_seen (single_seen R.D.seen)) r.placed.attached).swap) }
-    ensures lacks { IfErr result (λ s. s.ending ≡ Memory
-        → ((R.seen rack.new).faults ≡ (R.seen rack.old).faults)
-        × ((K.seen out.new).faults ≡ (K.seen out.old).faults)) }
+    // The rack counted a fault only where that ended the run; and where memory lacked, the sink counted none.
+    ensures racked { IfErr result (λ s. UnlessRacked s.ending
+        ((R.seen rack.new).faults ≡ (R.seen rack.old).faults)) }
+    ensures lacks { IfErr result (λ s. IsQuiet s.ending
+        → (K.seen out.new).faults ≡ (K.seen out.old).faults) }
     // No count falls.
     ensures rack { (R.seen rack.old).faults ≤ (R.seen rack.new).faults }
     ensures sink { (K.seen out.old).faults ≤ (K.seen out.new).faults }

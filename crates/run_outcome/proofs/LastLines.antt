@@ -1,6 +1,6 @@
 -- A run's end once its last line was printed, or memory lacked for the line.
 use Rattle.std.proofs.Common.{◌≡◌, ◌⊎◌, ℕ, ◌+◌, ◌≤◌, List, [], ◌++◌, refl, sym, ap, ◌∙◌, subst, arith, inl, inr}
-use Rattle.std.specs.Prelude.{Option, None}
+use Rattle.std.specs.Prelude.{IfSome, Option, None, Some}
 use Rattle.std.proofs.Math.Seq.{take-nil}
 use Rattle.volume_files.specs.block_device.Counts.{HasRisen}
 use Rattle.volume_files.specs.block_device.DiskSeen.{DiskSeen}
@@ -15,14 +15,48 @@ use Rattle.run_endings.specs.declared.ending.TraceAnswer.{TraceAnswer}
 use Rattle.run_endings.specs.declared.ending.TraceAnswer.TheVariants as answer
 use Rattle.run_endings.specs.declared.ending.TraceEnd.TheVariants as ends
 use Rattle.run_input.specs.TraceChecks.{StopsInAnswer, WroteAnswer}
-use Rattle.run_endings.specs.Ending.{answer_text, fault_of, last_line_of, status_of}
+use Rattle.run_endings.specs.Ending.{IsQuiet, answer_text, fault_of, last_line_of, status_of}
 use Rattle.run_outcome.specs.Ended.{End}
 use Rattle.volume_files.specs.Handed.{member_count}
 use Rattle.run_endings.specs.LastLine.{IsConcluded}
-use Rattle.run_outcome.specs.Run.{CaseOf, RunEnds, EndsBare, EndsTold, LacksLine, NoneFailed, Outside, middle_of, opening_of, opening_part, report_of, whole_text, wrote_all, wrote_before}
+use Rattle.run_outcome.specs.Run.{CaseOf, RunEnds, EndsBare, EndsTold, FailsOnce, LacksLine, Outside, UnlessRacked, middle_of, opening_of, opening_part, report_of, whole_text, wrote_all, wrote_before}
 use Rattle.volume_files.specs.stored_files.Texts.{WroteOn, sections_before}
 use Rattle.volume_files.proofs.stored_files.WrittenTexts.{appended_nothing}
 use Rattle.run_outcome.proofs.Sinks.{on_behind, still_front, still_part, still_wrote}
+
+-- the whole report, and want of memory, have no last line
+no-line : (how : Ending) → IsQuiet how → last_line_of how ≡ []
+no-line ending.Whole q = refl
+no-line ending.Memory q = refl
+no-line ending.Usage q = absurd q
+no-line (ending.NoScript x) q = absurd q
+no-line (ending.Refused x) q = absurd q
+no-line ending.NotRead q = absurd q
+no-line ending.OpeningSink q = absurd q
+no-line ending.Sink q = absurd q
+no-line (ending.Opening x) q = absurd q
+no-line (ending.Closing x) q = absurd q
+no-line (ending.Showing x) q = absurd q
+no-line (ending.Checked x) q = absurd q
+
+-- whichever way it ended
+pub racked-anyway : {P : Type 0} (how : Ending) → P → UnlessRacked how P
+racked-anyway {P} (ending.Opening f) p = by f.counts
+  where
+    by : (c : Option (ℕ × ℕ)) → IfSome c (λ counts. P)
+    by None = tt
+    by (Some c) = p
+racked-anyway ending.Whole p = p
+racked-anyway ending.Memory p = p
+racked-anyway ending.Usage p = p
+racked-anyway (ending.NoScript x) p = p
+racked-anyway (ending.Refused x) p = p
+racked-anyway ending.NotRead p = p
+racked-anyway ending.OpeningSink p = p
+racked-anyway ending.Sink p = p
+racked-anyway (ending.Closing x) p = p
+racked-anyway (ending.Showing x) p = p
+racked-anyway (ending.Checked x) p = p
 
 -- ---- the sink
 
@@ -165,20 +199,22 @@ module _ (g : Given) (s0 s1 r0 r1 n0 n1 : ℕ) (k0 k1 k2 : SinkSeen) (e : End) (
       (c.0, record { answer = c.1.answer; none = c.1.none; history = c.1.history; wrote = stops-still c.0 c.1.wrote (silent k1 k2 w) })
 
   -- the run's end, whichever it is
-  pub last-line : (was how : Ending) → CaseOf g (outside k1) (wrote_before (outside k1)) e was → (was ≡ ending.Memory → NoneFailed (outside k1)) → IsConcluded was k1 k2 how
+  pub last-line : (was how : Ending) → CaseOf g (outside k1) (wrote_before (outside k1)) e was → FailsOnce (outside k1) was → IsConcluded was k1 k2 how
       → EndsTold g (outside k2) e how ⊎ LacksLine g (outside k2) e how
-  last-line was how c hides (inl told) = inl (record {
+  last-line was how c once (inl told) = inl (record {
     case = subst (CaseOf g (outside k2) (wrote_all (outside k2)) e) (sym told.0) (line-told was c told.1);
-    memory = λ is.
-        let was-memory : was ≡ ending.Memory = sym told.0 ∙ is in
-        let h = hides was-memory in
-        record { source = h.source; rack = h.rack; sink = told.2 (ap last_line_of was-memory) ∙ h.sink };
+    once = record {
+      source = λ other. once.source (λ is. other (told.0 ∙ is));
+      rack = subst (λ (x : Ending). UnlessRacked x (r1 ≡ r0)) (sym told.0) once.rack;
+      sink = λ quiet. let q = subst IsQuiet told.0 quiet in told.2 (no-line was q) ∙ once.sink q;
+    };
   })
-  last-line was how c hides (inr lacks) = inr (record {
+  last-line was how c once (inr lacks) = inr (record {
     memory = lacks.0;
     stopped = was;
     line = lacks.2;
     case = subst (λ (k : SinkSeen). CaseOf g (outside k) (wrote_before (outside k)) e was) (sym lacks.1) c;
+    once = record { source = once.source; rack = once.rack; sink = λ quiet. absurd (lacks.2 (no-line was quiet)) };
   })
 
 -- ends with the same history and disks
@@ -193,14 +229,14 @@ module _ (g : Given) (s0 s1 r0 r1 n0 n1 : ℕ) (k0 k1 k2 : SinkSeen) (first : k0
 
   pub ends-so : (H H-new : HistorySeen) (d d-new : List DiskSeen) (w w-new : Option DiskSeen) → H-new ≡ H → d-new ≡ d → w-new ≡ w → (was how : Ending) (st : ℕ) (ft : Option RunFault)
       → ((x : ℕ) (y : Option RunFault) → CaseOf g (seen k1) (wrote_before (seen k1)) (record { status = x; fault = y; history = H; disks = d; swap = w }) was)
-      → (was ≡ ending.Memory → NoneFailed (seen k1))
+      → FailsOnce (seen k1) was
       → IsConcluded was k1 k2 how → st ≡ status_of how → ft ≡ fault_of how → n1 ≡ n0 + member_count d-new w-new
       → RunEnds g (seen k2) (record { status = st; fault = ft; history = H-new; disks = d-new; swap = w-new })
-  ends-so H H-new d d-new w w-new a b c was how st ft case hides concluded status fault back = record {
+  ends-so H H-new d d-new w w-new a b c was how st ft case once concluded status fault back = record {
     how = how;
     status = status;
     fault = fault;
     back = back;
     case = subst (λ (e : End). EndsTold g (seen k2) e how ⊎ LacksLine g (seen k2) e how) (end-same st ft H H-new d d-new w w-new a b c)
-        (last-line g s0 s1 r0 r1 n0 n1 k0 k1 k2 (record { status = st; fault = ft; history = H; disks = d; swap = w }) first later was how (case st ft) hides concluded);
+        (last-line g s0 s1 r0 r1 n0 n1 k0 k1 k2 (record { status = st; fault = ft; history = H; disks = d; swap = w }) first later was how (case st ft) once concluded);
   }

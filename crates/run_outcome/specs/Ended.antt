@@ -6,7 +6,7 @@ use Rattle.volume_files.specs.block_device.DiskSeen.{DiskSeen}
 use Rattle.volume_files.specs.block_device.declared.disk_fault.DiskFault.{DiskFault}
 use Rattle.vm_core.specs.kernel_close.Finish.{HistorySeen}
 use Rattle.volume_files.specs.vm_script.PlanSeen.{PlanSeen}
-use Rattle.volume_files.specs.Handed.{IsCountedBy, disk_handed}
+use Rattle.volume_files.specs.Handed.{IsCountedBy, disk_handed, volumes_of}
 use Rattle.run_outcome.specs.declared.stop.Stop.{Stop}
 use Rattle.run_endings.specs.declared.fault.RunFault.{RunFault}
 use Rattle.run_outcome.specs.declared.outcome.Outcome.{Outcome}
@@ -27,11 +27,18 @@ pub record HasLateCause (plan : PlanSeen) (history : HistorySeen) (disks : List 
   pub counted : IsCountedBy plan disks swap fault.disk fault.before fault.after
   pub since : (count : ℕ) × (slice_index_or history.faults fault.disk None ≡ Some count) × (count ≤ fault.before)
 
--- The disk that a device error of the history names is one that comes back, and it counted at least what the error names.
-abbrev pub CountsReach : PlanSeen → List DiskSeen → Option DiskSeen → List Entry → Type 0
-CountsReach plan disks swap H =
-    (k : ℕ) (e : Entry) (number before after : ℕ) → slice_get H k ≡ Some e → e.reply ≡ Io number before after
-    → IsSomeAnd (disk_handed plan disks swap number) (λ d. after ≤ d.faults)
+-- The disk that a device error of the history names is one that comes back, and it had counted what the error names before the closing began: the history
+-- tells as high a count of it at least, and it counted no fewer now.
+abbrev pub CountsReach : PlanSeen → HistorySeen → List DiskSeen → Option DiskSeen → Type 0
+CountsReach plan history disks swap =
+    (k : ℕ) (e : Entry) (number before after : ℕ) → slice_get history.entries k ≡ Some e → e.reply ≡ Io number before after
+    → (count : ℕ) × (slice_index_or history.faults number None ≡ Some count) × (after ≤ count) × IsSomeAnd (disk_handed plan disks swap number) (λ d. count ≤ d.faults)
+
+-- THE HISTORY'S COUNTS ARE THOSE OF THE DISKS: of each that comes back it tells one, and the disk counted no fewer now; and of the swap disk, which the closing
+-- doesn't touch, just as many as it counted, or none where there is no swap disk.
+pub record HasCountsOf (plan : PlanSeen) (history : HistorySeen) (disks : List DiskSeen) (swap : Option DiskSeen) : Type 0 where
+  pub each : (i : ℕ) (d : ℕ × DiskSeen) → slice_get (volumes_of plan disks) i ≡ Some d → IsSomeAnd (slice_index_or history.faults d.0 None) (λ count. count ≤ d.1.faults)
+  pub last : slice_index_or history.faults 8 None ≡ option_map (λ (d : DiskSeen). d.faults) swap
 
 -- A run that stopped, but for its status and fault.
 abbrev pub stop_end : {D : Type 0} → (D → DiskSeen) → Stop D → End

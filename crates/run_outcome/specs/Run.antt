@@ -1,5 +1,5 @@
 -- HOW A RUN ENDED, case by case. Public clauses cite this.
-use Rattle.std.specs.Prelude.{ℕ, ◌≡◌, ◌≢◌, ◌+◌, ◌≤◌, ◌<◌, ◌⊎◌, true, List, [], ◌++◌, length, slice_get, IsSome, IsTrue, Option, Some, None, Ok, Err}
+use Rattle.std.specs.Prelude.{ℕ, ◌≡◌, ◌≢◌, ◌+◌, ◌≤◌, ◌<◌, ◌⊎◌, true, List, [], ◌++◌, length, slice_get, IfSome, IsSome, IsTrue, Option, Some, None, Ok, Err}
 use Rattle.volume_files.specs.vm_types.declared.call.Entry.{Entry}
 use Rattle.volume_files.specs.block_device.Counts.{HasRisen}
 use Rattle.volume_files.specs.block_device.DiskSeen.{DiskSeen}
@@ -30,8 +30,8 @@ use Rattle.run_endings.specs.declared.fault.RunFault.TheVariants as fault
 use Rattle.volume_files.specs.stored_files.declared.showing.Heading.TheVariants.{Report, Trace}
 use Rattle.run_input.specs.Asked.{Given, Asked, FailsToRead, WasAsked, run_request}
 use Rattle.volume_files.specs.stored_files.Closed.{StoreFiles, SaysItsTable, SayTables, infos_in_flat, flat_bytes, modes_in}
-use Rattle.run_endings.specs.Ending.{status_of, fault_of, last_line_of}
-use Rattle.run_outcome.specs.Ended.{End, HasLateCause, CountsReach}
+use Rattle.run_endings.specs.Ending.{IsQuiet, status_of, fault_of, last_line_of}
+use Rattle.run_outcome.specs.Ended.{End, HasLateCause, CountsReach, HasCountsOf}
 use Rattle.run_outcome.specs.OnDisks.{AreUnkeptGiven, HoldFronts}
 use Rattle.volume_files.specs.Handed.{AreGivenWhere, AreUncounted, AreWrittenAt, HaveTold, HandsNone, HandsFront, HandsAll, HasDiskCause, HasOpeningCause, HasRefusalCause, StopsAttaching, volumes_of, sizes_of, member_count}
 use Rattle.volume_files.specs.Opened.{line_files_of, ComesTo, OpenedFile, opened_files, infos_of, names_of, numbered_plan, opening_flat}
@@ -166,8 +166,8 @@ pub record StopsInTrace (g : Given) (o : Outside) (e : End) : Type 0 where
   pub wrote : WrotePart o.sink_old o.sink_new (opening_part what files e.disks bytes)
 
 -- THE RUN BEGAN. Flat memory as the processes find it; where the disks tell, the history is legal for it, and a trace of both is a text that stands for them;
--- whatever they tell, each of its entries has the signal or errno that flat memory calls due, or none where none is; and each of its device errors names a
--- fault that its disk counted. And where the disks tell, each block of a file's page holds the page as it was after a front of the history, and each block that
+-- whatever they tell, each of its entries, device errors aside, has the signal or errno that flat memory calls due, or none where none is; and each of its device
+-- errors names a fault that its disk had counted before the closing began, by the counts that the history tells, which are the disks'. And where the disks tell, each block of a file's page holds the page as it was after a front of the history, and each block that
 -- no file keeps for a page, block 0 aside, is as the rack gave it.
 abbrev pub flat_opened : Asked → List OpenedFile → List DiskSeen → Flat
 flat_opened what files disks = opening_flat what.plan (sizes_of what.plan disks) files
@@ -189,15 +189,16 @@ pub record Begun (g : Given) (what : Asked) (files : List OpenedFile) (bytes : �
   pub traced : DisksTell e → IsTextFor (traced_text what files bytes e) (flat_opened what files e.disks) e.history.entries
   pub refusals : RefusesAsDue (flat_opened what files e.disks) e.history.entries
   pub counted : Counted e.history.entries
-  pub reached : CountsReach what.plan e.disks e.swap e.history.entries
+  pub reached : CountsReach what.plan e.history e.disks e.swap
+  pub counts : HasCountsOf what.plan e.history e.disks e.swap
   pub fronts : DisksTell e → HoldFronts (flat_opened what files e.disks) e.history.entries (volumes_of what.plan e.disks)
   pub unkept : DisksTell e → AreUnkeptGiven what.plan g.holds (flat_opened what files e.disks) e.history.entries e.disks
 
--- The disks have its files: those with which it began, by name, disk and mode; where the disks tell, their records are those of flat memory after the
--- history, and so are the bytes that the disks have.
+-- The disks have its files: those with which it began, by name, disk and mode. Their records, lengths among them, are those of flat memory after the history,
+-- whatever disks tell; and where these tell, so are the bytes that they have.
 pub record LeavesFiles (g : Given) (what : Asked) (files : List OpenedFile) (infos : List FileInfo) (e : End) : Type 0 where
   pub modes : modes_in infos ≡ modes_in (infos_of files)
-  pub records : DisksTell e → infos ≡ infos_in_flat (names_of files) (flat_closed what files e.disks e.history.entries).files
+  pub records : infos ≡ infos_in_flat (names_of files) (flat_closed what files e.disks e.history.entries).files
   pub stored : DisksTell e → StoreFiles (volumes_of what.plan e.disks) infos (flat_bytes (flat_closed what files e.disks e.history.entries).files)
 
 -- ITS FILES WERE CLOSED: the disks have them, and block 0 of each disk says the table of its files.
@@ -215,6 +216,11 @@ pub record WroteTablesBelow (g : Given) (what : Asked) (files : List OpenedFile)
   pub left : LeavesFiles g what files infos e
   pub below : (i : ℕ) (d : ℕ × DiskSeen) → slice_get (volumes_of what.plan e.disks) i ≡ Some d → d.0 < number → SaysItsTable infos d
   pub above : DisksTell e → AreGivenWhere what.plan g.holds e.disks (λ n block. (number < n) × (block ≡ 0))
+
+-- THE TABLES WERE WRITTEN BELOW THIS NUMBER AND NOTHING ELSE: as much; and where the disks tell, block 0 of the disk of the number itself is as the rack gave it, too.
+pub record WroteTablesAlone (g : Given) (what : Asked) (files : List OpenedFile) (infos : List FileInfo) (number : ℕ) (e : End) : Type 0 where
+  pub written : WroteTablesBelow g what files infos number e
+  pub next : DisksTell e → AreGivenWhere what.plan g.holds e.disks (λ n block. (n ≡ number) × (block ≡ 0))
 
 -- The bytes of the files that were read back, each as long as its record says; where the disks tell, those of flat memory after the history.
 pub record AreClosedBytes (g : Given) (what : Asked) (files : List OpenedFile) (infos : List FileInfo) (e : End) (bytes : ℕ → List ℕ) : Type 0 where
@@ -312,15 +318,17 @@ pub record LacksInTrace (g : Given) (o : Outside) (e : End) : Type 0 where
   pub read : AreOpenedBytes g what files e bytes
   pub wrote : WroteFront o.sink_old o.sink_new (opening_part what files e.disks bytes)
 
--- Memory lacked as they ran or later: each process did a front of its lines, and the kernel was closed all the same: the disks have the files as the
--- history leaves them, and the tables were written up to one of them; or one failed since, and no table was. The opening part was written whole; behind it a front of the report, but only where each process did
--- all its lines, and the files were closed and read back.
+-- Memory lacked as they ran or later: each process did a front of its lines, and the kernel was closed all the same. The disks have the files as the history
+-- leaves them, and the tables were written below a number, and nothing else; or a disk failed since: as a page was written, and then no table was, or as its
+-- table was, and then those of lower numbers were. The opening part was written whole; behind it a front of the report, but only where each process did all its
+-- lines, and the files were closed and read back.
 pub record LacksLate (g : Given) (o : Outside) (e : End) : Type 0 where
   pub course : Course
   pub begun : Begun g course.what course.files course.bytes e
   pub told : ToldFront (plan_opened course.what course.files) e.history.entries
-  pub left : ((number : ℕ) × WroteTablesBelow g course.what course.files course.infos number e)
-      ⊎ ((fault : DiskFault) × HasLateCause course.what.plan e.history e.disks e.swap fault × WroteNoTable g course.what e)
+  pub left : ((number : ℕ) × WroteTablesAlone g course.what course.files course.infos number e)
+      ⊎ ((fault : DiskFault) × HasLateCause course.what.plan e.history e.disks e.swap fault
+      × (WroteNoTable g course.what e ⊎ WroteTablesBelow g course.what course.files course.infos fault.disk e))
   pub wrote : Wrote o.sink_old o.sink_new (opening_of course e) ⊎ (WasShown g course e × WroteAndFront o.sink_old o.sink_new (opening_of course e) (report_of course e))
 
 abbrev pub Lacks : Given → Outside → End → Type 0
@@ -351,23 +359,30 @@ CaseOf g o W e (ending.Showing f) = FailsToShow g W f e
 CaseOf g o W e ending.Memory = Lacks g o e
 CaseOf g o W e (ending.Checked t) = ChecksTrace g o e t
 
--- Source, rack and sink counted no fault.
-pub record NoneFailed (o : Outside) : Type 0 where
-  pub source : o.source_new ≡ o.source_old
-  pub rack : o.rack_new ≡ o.rack_old
-  pub sink : o.sink_new.faults ≡ o.sink_old.faults
+-- What is said unless the rack ended the run: a fault of its opening that has no counts is the rack's.
+abbrev pub UnlessRacked : Ending → Type 0 → Type 0
+UnlessRacked (ending.Opening f) P = IfSome f.counts (λ counts. P)
+UnlessRacked how P = P
 
--- The run ended so, and its last line was printed, as far as the sink took it. Want of memory hides no failure.
+-- NO SECOND TRY: the first failure ended the run. The source counted no fault in a run that ended otherwise than by that, nor did the rack; and the sink
+-- counted none in one that wrote its whole report, or for which memory lacked. So want of memory hides no failure of these three.
+pub record FailsOnce (o : Outside) (how : Ending) : Type 0 where
+  pub source : how ≢ ending.NotRead → o.source_new ≡ o.source_old
+  pub rack : UnlessRacked how (o.rack_new ≡ o.rack_old)
+  pub sink : IsQuiet how → o.sink_new.faults ≡ o.sink_old.faults
+
+-- The run ended so, its first failure ended it, and its last line was printed, as far as the sink took it.
 pub record EndsTold (g : Given) (o : Outside) (e : End) (how : Ending) : Type 0 where
   pub case : CaseOf g o (wrote_all o) e how
-  pub memory : how ≡ ending.Memory → NoneFailed o
+  pub once : FailsOnce o how
 
--- Memory lacked for the last line alone: the run stopped in another way, which has a line, and all is as it was then.
+-- Memory lacked for the last line alone: the run stopped in another way, which has a line, by its first failure, and all is as it was then.
 pub record LacksLine (g : Given) (o : Outside) (e : End) (how : Ending) : Type 0 where
   pub memory : how ≡ ending.Memory
   pub stopped : Ending
   pub line : last_line_of stopped ≢ []
   pub case : CaseOf g o (wrote_before o) e stopped
+  pub once : FailsOnce o stopped
 
 -- THE RUN ENDED in one of these ways, and each disk that the rack attached in it is handed back.
 pub record RunEnds (g : Given) (o : Outside) (e : End) : Type 0 where

@@ -16,13 +16,13 @@ use Rattle.command_line.specs.declared.options.Options.{Options}
 use Rattle.volume_files.specs.stored_files.declared.showing.Heading.TheVariants.{Report}
 use Rattle.volume_files.specs.stored_files.declared.showing.ShowStop.{ShowStop}
 use Rattle.volume_files.specs.stored_files.declared.showing.ShowStop.TheVariants as show
-use Rattle.run_report.specs.ReportEnds.{CloseEnds, LacksTable, MiddleStops, ShowEnds, showing_stop}
+use Rattle.run_report.specs.ReportEnds.{CloseEnds, LacksTable, MiddleStops, ShowEnds, TablesLeft, showing_stop}
 use Rattle.volume_files.specs.stored_files.Texts.{Wrote, WroteFront, WrotePart}
 use Rattle.run_report.specs.AskedTexts.{files_or_none, middle_text}
 use Rattle.volume_files.specs.stored_files.Closed.{SayTables}
 use Rattle.volume_files.specs.stored_files.declared.closing.TableStop.{TableStop}
 use Rattle.volume_files.specs.stored_files.declared.closing.TableStop.TheVariants as table
-use Rattle.volume_files.specs.stored_files.Written.{disk_fault_counts, AreFilesBytes, IsShowStop, IsTableStop, WriteTables, WroteTablesTo}
+use Rattle.volume_files.specs.stored_files.Written.{disk_fault_counts, AreFilesBytes, IsShowStop, IsTableStop, WriteTables, WroteTablesAt}
 use Rattle.volume_files.specs.Handed.{kinds_of}
 use Rattle.volume_files.proofs.DiskCounts.{kinds-read, kinds-written}
 use Rattle.volume_files.proofs.stored_files.WrittenTexts.{risen_since, wrote_then, front_more, front_then, part_more, part_then}
@@ -72,21 +72,21 @@ module _ (o : Options) (plan : PlanSeen) (H : List Entry) (infos : List FileInfo
       (s.0, (bytes, s.1.0, s.1.1, are, s.1.2, no-make o.make none, wrote_then k0 k1 k2 (middle_text o plan H) _ wrote s.1.3))
 
 -- no table was written
-pub no-tables : (infos : List FileInfo) (disks : List (ℕ × DiskSeen)) → WroteTablesTo infos 0 disks disks
+pub no-tables : (infos : List FileInfo) (disks : List (ℕ × DiskSeen)) → WroteTablesAt infos 0 disks disks
 no-tables infos disks = record { before = λ i d low at. absurd (omega (arith, low)); behind = λ i low. refl }
 
 -- tables were written up to some disk, whether all were or not
 pub tables-to : (infos : List FileInfo) (old new : List (ℕ × DiskSeen)) → WriteTables old new → (r : Result (Unit {0}) TableStop) → OnOk r (SayTables new infos) → IfErr r (IsTableStop infos old new)
-    → (place : ℕ) × WroteTablesTo infos place old new
-tables-to infos old new w (Ok done) say stop = (
+    → TablesLeft infos old new
+tables-to infos old new w (Ok done) say stop = inl (
   length new,
   record {
     before = λ i d low at. say i d at;
     behind = λ i past. slice_get_past new i (omega (arith, past)) ∙ sym (slice_get_past old i (let count = w.count in omega (arith, past, count)));
   },
 )
-tables-to infos old new w (Err table.Memory) say stop = stop
-tables-to infos old new w (Err (table.Fault f)) say stop = (stop.0.i, stop.1)
+tables-to infos old new w (Err table.Memory) say stop = inl stop
+tables-to infos old new w (Err (table.Fault f)) say stop = inr (f, stop.0, stop.1)
 
 -- not all lines were made
 pub lacks-closed : (whole : Bool) (fault : Option DiskFault) (o : Options) (plan : PlanSeen) (H : List Entry) (infos : List FileInfo) (k0 k1 : SinkSeen) (old new : List (ℕ × DiskSeen)) (how : Ending)

@@ -17,7 +17,7 @@ use Rattle.volume_files.specs.stored_files.declared.showing.ShowStop.TheVariants
 use Rattle.volume_files.specs.stored_files.Closed.{SayTables}
 use Rattle.volume_files.specs.stored_files.Texts.{Wrote, WroteFront, WroteOn, WrotePart, IsPageUnread, sections_before}
 use Rattle.run_report.specs.AskedTexts.{files_or_none, middle_text}
-use Rattle.volume_files.specs.stored_files.Written.{AreFilesBytes, AreOnlyRead, IsCountedSince, WriteTables, WroteTablesTo, disk_fault_counts}
+use Rattle.volume_files.specs.stored_files.Written.{AreFilesBytes, AreOnlyRead, IsCountedSince, WriteTables, WroteTablesAt, WroteTablesTo, disk_fault_counts}
 
 -- What is said unless the sink or a disk failed: where a step was done, or memory lacked.
 abbrev pub UnlessEnded : {T : Type 0} → Result T Ending → Type 0 → Type 0
@@ -62,10 +62,16 @@ pub record FailsTable (o : Options) (plan : PlanSeen) (H : List Entry) (infos : 
   pub tables : WroteTablesTo infos counted.i old new
   pub ends : CloseFails o plan H fault k0 k1 how
 
+-- How far tables were written where memory lacked: up to a place, and nothing else; or up to that of a disk whose own wasn't, as its last transfer failed.
+abbrev pub TablesLeft : List FileInfo → List (ℕ × DiskSeen) → List (ℕ × DiskSeen) → Type 0
+TablesLeft infos old new =
+    ((place : ℕ) × WroteTablesAt infos place old new)
+    ⊎ ((fault : DiskFault) × (c : IsCountedSince old new (disk_fault_counts fault)) × WroteTablesTo infos c.i old new)
+
 pub record LacksTable (infos : List FileInfo) (k0 k1 : SinkSeen) (old new : List (ℕ × DiskSeen)) (how : Ending) : Type 0 where
   pub memory : how ≡ ending.Memory
   pub writes : WriteTables old new
-  pub tables : (place : ℕ) × WroteTablesTo infos place old new
+  pub tables : TablesLeft infos old new
   pub wrote : Wrote k0 k1 []
 
 abbrev pub TablesEnd : Options → PlanSeen → List Entry → List FileInfo → SinkSeen → SinkSeen → List (ℕ × DiskSeen) → List (ℕ × DiskSeen) → Ending → Type 0

@@ -5,7 +5,7 @@ ghost use Rattle.volume_files.specs.vm_report.Faults.{disk_fault_text};
 ghost use Rattle.volume_files.specs.vm_types.WellFormed.{IsWellFormed};
 ghost use Rattle.volume_files.specs.stored_files.Written.{HaveVolumeNames, infos_made, LieWell, HaveDisks, HaveExtents, HaveFirstBlocks, AreOnlyRead};
 ghost use Rattle.run_report.specs.ReportEnds.{CloseFails, ShowEnds, TablesEnd, showing_stop};
-ghost use Rattle.run_endings.specs.declared.ending.Ending.TheVariants.{Memory};
+ghost use Rattle.run_endings.specs.Ending.{IsQuiet};
 ghost use Rattle.run_report.specs.AskedTexts.{middle_text};
 
 use crate::reporting::{middle, write_middle};
@@ -53,7 +53,7 @@ pub fn tell_fault<K: Sink>(
         (K.seen out.old) (K.seen out.new) result }
     // Want of memory hides no failure.
     ensures later { (K.seen out.old).faults ≤ (K.seen out.new).faults }
-    ensures hides { result ≡ Memory → (K.seen out.new).faults ≡ (K.seen out.old).faults }
+    ensures hides { IsQuiet result → (K.seen out.new).faults ≡ (K.seen out.old).faults }
 {
     match closing_text(alloc, options, plan, history, &fault) {
         Ok(text) => {
@@ -95,7 +95,7 @@ fn show_report<D: Disk, K: Sink>(
     // What stays.
     ensures reads { AreOnlyRead (pairs_seen D.seen disks.old) (pairs_seen D.seen disks.new) }
     ensures later { (K.seen out.old).faults ≤ (K.seen out.new).faults }
-    ensures hides { result ≡ Memory → (K.seen out.new).faults ≡ (K.seen out.old).faults }
+    ensures hides { IsQuiet result → (K.seen out.new).faults ≡ (K.seen out.old).faults }
 {
     if let Err(ending) = write_middle(alloc, options, plan, history, out) {
         return ending;
@@ -132,8 +132,9 @@ pub fn report<D: Disk, K: Sink>(
     ensures ends { TablesEnd options.now plan.now history.now (infos_made files.now)
         (K.seen out.old) (K.seen out.new)
         (pairs_seen D.seen disks.old) (pairs_seen D.seen disks.new) result }
+    // Neither the whole report nor want of memory hides a failure of the sink.
     ensures later { (K.seen out.old).faults ≤ (K.seen out.new).faults }
-    ensures hides { result ≡ Memory → (K.seen out.new).faults ≡ (K.seen out.old).faults }
+    ensures hides { IsQuiet result → (K.seen out.new).faults ≡ (K.seen out.old).faults }
 {
     match write_tables(alloc, files, disks) {
         Ok(()) => show_report(alloc, options, plan, history, files, disks, out),

@@ -14,7 +14,7 @@ use Rattle.volume_format.specs.Writing.{encoding}
 use Rattle.stored_files.specs.declared.closing.TableStop.{TableStop}
 use Rattle.stored_files.specs.declared.closing.TableStop.TheVariants.{Memory, Fault}
 use Rattle.stored_files.specs.Closed.{SaysItsTable, SaysTable, SayTables, table_of_disk}
-use Rattle.stored_files.specs.Written.{HaveDisks, HaveFirstBlocks, KeepsBlocks, WriteTables, WroteTablesTo, IsTableStop}
+use Rattle.stored_files.specs.Written.{HaveDisks, HaveFirstBlocks, KeepsBlocks, WriteTables, WroteTablesAt, WroteTablesTo, IsTableStop}
 use Rattle.stored_files.specs.DiskTables.{IsOneTableStop, TablesSoFar}
 use Rattle.stored_files.proofs.EachDisk.{Each, each_same, each_put, each_then, one_at, put_here, put_other, was_before}
 
@@ -100,8 +100,20 @@ module _ (infos : List FileInfo) (place : ℕ) (old mid : List (ℕ × DiskSeen)
     behind = λ i low. put_other mid place i e (λ same. omega (arith, low, same)) ∙ so.behind i (omega (arith, low));
   }
 
+  -- up to this disk, which is as it was
+  tables_at : e ≡ d → WroteTablesAt infos place old (slice_set mid place e)
+  tables_at same = record {
+    before = tables_to.before;
+    behind = λ i low. elim (cases_eq i place) [
+      | inl here ↦
+          ap (slice_get (slice_set mid place e)) here ∙ put_here mid place d e at ∙ ap (λ (x : ℕ × DiskSeen). Some x) same ∙ sym at ∙ so.behind place (omega arith)
+          ∙ ap (slice_get old) (sym here)
+      | inr other ↦ put_other mid place i e other ∙ so.behind i low
+    ];
+  }
+
   pub tables_stop : (stop : TableStop) → IsOneTableStop d e stop → IsTableStop infos old (slice_set mid place e) stop
-  tables_stop Memory is = (place, tables_to)
+  tables_stop Memory is = (place, tables_at is)
   tables_stop (Fault f) is =
       let was = was_before KeepsBlocks old mid place d (each_from old mid so.writes) at in (
         record {

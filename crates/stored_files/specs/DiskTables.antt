@@ -36,9 +36,9 @@ pub record IsAddableTo (t : TableSeen) (e : FileInfo) : Type 0 where
   pub name : IsNewName e.name t.entries
   pub apart : AreDisjointExtents e.extents
 
--- Why the table of a disk wasn't written.
+-- Why the table of a disk wasn't written: memory lacked, and the disk is as it was; or the transfer failed.
 abbrev pub IsOneTableStop : ℕ × DiskSeen → ℕ × DiskSeen → TableStop → Type 0
-IsOneTableStop old new table.Memory = Unit {0}
+IsOneTableStop old new table.Memory = new ≡ old
 IsOneTableStop old new (table.Fault f) = IsFaultOf old.0 old.1 new.1 f × HasRisen old.1.faults new.1.faults
 
 -- The tables of so many disks were written; the disks behind them are as they were.

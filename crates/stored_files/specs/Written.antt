@@ -127,9 +127,15 @@ pub record WroteTablesTo (infos : List FileInfo) (place : ℕ) (old new : List (
   pub before : (i : ℕ) (d : ℕ × DiskSeen) → i < place → slice_get new i ≡ Some d → SaysItsTable infos d
   pub behind : (i : ℕ) → place < i → slice_get new i ≡ slice_get old i
 
--- Why a table wasn't written: memory lacked, or the last transfer of a disk failed. The tables were written up to that disk's place.
+-- The tables were written up to a place, and nothing else: each disk before it says that of its files, and it and each behind it are as they were.
+pub record WroteTablesAt (infos : List FileInfo) (place : ℕ) (old new : List (ℕ × DiskSeen)) : Type 0 where
+  pub before : (i : ℕ) (d : ℕ × DiskSeen) → i < place → slice_get new i ≡ Some d → SaysItsTable infos d
+  pub behind : (i : ℕ) → place ≤ i → slice_get new i ≡ slice_get old i
+
+-- Why a table wasn't written: memory lacked, and the tables were written up to a place, and nothing else; or the last transfer of a disk failed, and they were
+-- written up to that disk's place.
 abbrev pub IsTableStop : List FileInfo → List (ℕ × DiskSeen) → List (ℕ × DiskSeen) → TableStop → Type 0
-IsTableStop infos old new table.Memory = (place : ℕ) × WroteTablesTo infos place old new
+IsTableStop infos old new table.Memory = (place : ℕ) × WroteTablesAt infos place old new
 IsTableStop infos old new (table.Fault f) = (c : IsCountedSince old new (disk_fault_counts f)) × WroteTablesTo infos c.i old new
 
 -- Why files weren't shown to their end, and what was written: for want of memory a front, nothing that is no front of the text; where the sink

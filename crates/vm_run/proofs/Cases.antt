@@ -19,12 +19,12 @@ use Rattle.run_input.specs.Asked.{Given, Asked}
 use Rattle.volume_files.specs.Attached.{AttachedSeen, bare_disks}
 use Rattle.volume_files.specs.stored_files.Closed.{SayTables, SaysTable}
 use Rattle.run_opening.specs.Ready.{IsReady}
-use Rattle.run_report.specs.ReportEnds.{CloseEnds, CloseFails, ShowEnds, LacksTable}
+use Rattle.run_report.specs.ReportEnds.{CloseEnds, CloseFails, ShowEnds, LacksTable, TablesLeft}
 use Rattle.run_outcome.specs.Ended.{HasLateCause}
 use Rattle.volume_files.specs.Opened.{OpenedFile, infos_of, opening_flat}
 use Rattle.run_kernel.specs.Played.{IsStarted, KernelLeaves, LeftSeen, IsClosingFault}
 use Rattle.volume_files.specs.stored_files.Written.{infos_made, AreFilesBytes, AreOnlyRead, FaultCounts, HaveDisks, IsCountedSince, KeepsBlocks, OnlyReads, WriteTables, WroteTablesTo, disk_fault_counts, disk_sizes}
-use Rattle.run_outcome.specs.Run.{CaseOf, Course, Outside, WasShown, Lacks, RunsThrough, WroteNoTable, WroteTablesBelow, middle_of, opening_of, opening_part, plan_opened, wrote_before}
+use Rattle.run_outcome.specs.Run.{CaseOf, Course, Outside, WasShown, Lacks, RunsThrough, WroteNoTable, WroteTablesAlone, WroteTablesBelow, middle_of, opening_of, opening_part, plan_opened, wrote_before}
 use Rattle.volume_files.specs.stored_files.Texts.{Wrote, WroteAndFront, WroteAndPart, WroteFront, WroteOn, WrotePart}
 use Rattle.run_report.specs.AskedTexts.{middle_text, trace_opening}
 use Rattle.volume_files.proofs.DiskLists.{at-map, mate, have-written, writes-refl}
@@ -135,12 +135,10 @@ module _ (st : ℕ) (ft : Option RunFault) (g : Given) (o : Outside) (what : Ask
       shown = closed-bytes st ft g what files bytes a made plan o.sink_old k1 ready s l started left new w none have shown are;
     }
 
-    -- the disks have the files, and the tables were written up to one of them; or one failed, and no table was
+    -- the disks have the files, and the tables were written below one of them, and nothing else; or one failed, as a page was written or its table
     abbrev IsLeft : Type 0
-    IsLeft = ((n : ℕ) × WroteTablesBelow g what files infos n e) ⊎ ((f : DiskFault) × HasLateCause what.plan l.history (bare_disks new) l.swap f × WroteNoTable g what e)
-
-    is-left : l.fault ≡ None → (place : ℕ) → WroteTablesTo infos place l.disks new → IsLeft
-    is-left none place to = inl (some-tables st ft g what files bytes a made plan o.sink_old k1 ready s l started left new w none place to)
+    IsLeft = ((n : ℕ) × WroteTablesAlone g what files infos n e) ⊎ ((f : DiskFault) × HasLateCause what.plan l.history (bare_disks new) l.swap f
+        × (WroteNoTable g what e ⊎ WroteTablesBelow g what files infos f.disk e))
 
     -- nothing was written behind the opening part
     lacking : ToldFront plan l.history.entries → IsLeft → Wrote k1 o.sink_new [] → Lacks g o e
@@ -199,6 +197,23 @@ module _ (st : ℕ) (ft : Option RunFault) (g : Given) (o : Outside) (what : Ask
   since-closed f new c =
       let count = left.counts c.i c.was c.there in let le = count.2 in let high = c.fault.since in
       (count.0, ap (λ (n : ℕ). slice_index_or l.history.faults n None) (c.fault.number ∙ c.same) ∙ count.1, omega (arith, le, high))
+
+  -- the table of a disk wasn't written
+  table-failed : (f : DiskFault) (new : List (ℕ × DiskSeen)) (w : WriteTables l.disks new) → l.fault ≡ None → (c : IsCountedSince l.disks new (disk_fault_counts f)) → WroteTablesTo infos c.i l.disks new
+      → WroteTablesBelow g what files infos f.disk (e new w)
+  table-failed f new w none c to =
+      tables-below st ft g what files bytes a made plan o.sink_old k1 ready s l started left new w none c.i f.disk
+      (ap (λ (ns : List ℕ). slice_get ns c.i) (sym (numbers-new st ft g what files bytes a made plan o.sink_old k1 ready s l started left new w))
+      ∙ at-map (λ (d : ℕ × DiskSeen). d.0) new c.i (f.disk, c.is.1) (fault-at f new c)) to
+
+  table-left : (f : DiskFault) (new : List (ℕ × DiskSeen)) (w : WriteTables l.disks new) → l.fault ≡ None → (c : IsCountedSince l.disks new (disk_fault_counts f)) → WroteTablesTo infos c.i l.disks new → IsLeft new w
+  table-left f new w none c to =
+      inr (f, fault-cause f new w c.i c.is.1 (fault-at f new c) (fault-low f new c) c.fault.last (since-closed f new c), inr (table-failed f new w none c to))
+
+  -- the tables that were written where memory lacked
+  is-left : (new : List (ℕ × DiskSeen)) (w : WriteTables l.disks new) → l.fault ≡ None → TablesLeft infos l.disks new → IsLeft new w
+  is-left new w none (inl to) = inl (some-tables st ft g what files bytes a made plan o.sink_old k1 ready s l started left new w none to.0 to.1)
+  is-left new w none (inr to) = table-left to.0 new w none to.1 to.2
 
   shows : Told plan l.history.entries → ToldFront plan l.history.entries → l.fault ≡ None
       → (mid new : List (ℕ × DiskSeen)) (w : WriteTables l.disks mid) (r : AreOnlyRead mid new) → SayTables mid infos
@@ -270,15 +285,7 @@ module _ (st : ℕ) (ft : Option RunFault) (g : Given) (o : Outside) (what : Ask
     closing-table w = no-table st ft g what files bytes a made plan o.sink_old k1 ready s l started left new w same
 
     closing-left : (w : WriteTables l.disks new) → IsLeft new w
-    closing-left w = inr (f, fault-cause f new w closing-fault.there.0 closing-fault.disk.1 closing-at closing-low closing-fault.fault.last closing-since, closing-table w)
-
-  -- the table of a disk wasn't written
-  table-failed : (f : DiskFault) (new : List (ℕ × DiskSeen)) (w : WriteTables l.disks new) → l.fault ≡ None → (c : IsCountedSince l.disks new (disk_fault_counts f)) → WroteTablesTo infos c.i l.disks new
-      → WroteTablesBelow g what files infos f.disk (e new w)
-  table-failed f new w none c to =
-      tables-below st ft g what files bytes a made plan o.sink_old k1 ready s l started left new w none c.i f.disk
-      (ap (λ (ns : List ℕ). slice_get ns c.i) (sym (numbers-new st ft g what files bytes a made plan o.sink_old k1 ready s l started left new w))
-      ∙ at-map (λ (d : ℕ × DiskSeen). d.0) new c.i (f.disk, c.is.1) (fault-at f new c)) to
+    closing-left w = inr (f, fault-cause f new w closing-fault.there.0 closing-fault.disk.1 closing-at closing-low closing-fault.fault.last closing-since, inl (closing-table w))
 
   -- the end of a run whose processes ran, whichever it is
   pub close-case : (whole : Bool) → (IsTrue whole → Told plan l.history.entries) → ToldFront plan l.history.entries → (fault : Option DiskFault)
@@ -286,7 +293,7 @@ module _ (st : ℕ) (ft : Option RunFault) (g : Given) (o : Outside) (what : Ask
       → CloseEnds whole fault what.options plan l.history.entries infos k1 o.sink_new l.disks new how
       → CaseOf g o (wrote_before o) (record { status = st; fault = ft; history = l.history; disks = bare_disks new; swap = l.swap }) how
   close-case false told front (Some f) is new how c = lacked new front how c.1 (closing-left f is new c.0 c.1.writes)
-  close-case false told front None is new how c = lacked new front how c (is-left new c.writes is c.tables.0 c.tables.1)
+  close-case false told front None is new how c = lacked new front how c (is-left new c.writes is c.tables)
   close-case true told front (Some f) is new how c =
       let x = closing-fault f is new c.0 in
       let w = subst (WriteTables l.disks) (sym c.0) (writes-refl l.disks) in
@@ -294,5 +301,5 @@ module _ (st : ℕ) (ft : Option RunFault) (g : Given) (o : Outside) (what : Ask
   close-case true told front None is new how (inl c) = shows (told refl) front is c.mid new c.writes c.reads c.tables how c.ends
   close-case true told front None is new how (inr (inl c)) =
       close-failed c.fault new c.writes c.counted.i c.counted.is.1 (fault-at c.fault new c.counted) (fault-low c.fault new c.counted) c.counted.fault.last
-      (since-closed c.fault new c.counted) (told refl) front (is-left new c.writes is c.counted.i c.tables) (inr (table-failed c.fault new c.writes is c.counted c.tables)) how c.ends
-  close-case true told front None is new how (inr (inr c)) = lacked new front how c (is-left new c.writes is c.tables.0 c.tables.1)
+      (since-closed c.fault new c.counted) (told refl) front (table-left c.fault new c.writes is c.counted c.tables) (inr (table-failed c.fault new c.writes is c.counted c.tables)) how c.ends
+  close-case true told front None is new how (inr (inr c)) = lacked new front how c (is-left new c.writes is c.tables)

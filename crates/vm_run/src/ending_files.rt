@@ -7,7 +7,7 @@ ghost use Rattle.volume_files.specs.stored_files.Written.{HaveVolumeNames, infos
 ghost use Rattle.volume_files.specs.Handed.{member_count};
 ghost use Rattle.volume_files.specs.block_device.DiskSeen.{DiskSeen};
 ghost use Rattle.run_report.specs.ReportEnds.{CloseEnds};
-ghost use Rattle.run_endings.specs.declared.ending.Ending.TheVariants.{Memory};
+ghost use Rattle.run_endings.specs.Ending.{IsQuiet};
 
 use command_line::Options;
 use run_endings::Ending;
@@ -45,7 +45,7 @@ fn close<D: Disk, K: Sink>(
     ensures swap { finished.new.swap ≡ finished.old.swap }
     ensures count { length finished.new.disks.items ≡ length finished.old.disks.items }
     ensures later { (K.seen out.old).faults ≤ (K.seen out.new).faults }
-    ensures hides { result ≡ Memory → (K.seen out.new).faults ≡ (K.seen out.old).faults }
+    ensures hides { IsQuiet result → (K.seen out.new).faults ≡ (K.seen out.old).faults }
 {
     let fault = finished.fault;
     if !is_whole {
@@ -98,7 +98,7 @@ pub fn end_run<D: Disk, K: Sink>(
         ≡ member_count (bare_disks (pairs_seen D.seen played.finished.disks.items))
         (option_map D.seen played.finished.swap) }
     ensures later { (K.seen out.old).faults ≤ (K.seen out.new).faults }
-    ensures hides { result.ending ≡ Memory → (K.seen out.new).faults ≡ (K.seen out.old).faults }
+    ensures hides { IsQuiet result.ending → (K.seen out.new).faults ≡ (K.seen out.old).faults }
 {
     let Played {
         mut finished,

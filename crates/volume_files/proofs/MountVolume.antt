@@ -1,16 +1,18 @@
 -- What mounting a volume does: its disks are attached, and its table is read.
 use Rattle.std.proofs.Common.{◌≡◌, ℕ, ◌+◌, Bool, false, List, [], ◌∷◌, ◌++◌, map, Option, Some, None, refl, sym, ap, ◌∙◌, subst, arith, append-nil, append_assoc, inl, inr, replicate}
-use Rattle.std.specs.Prelude.{IfSome, MatchOption, Err, option_and_then}
+use Rattle.std.specs.Prelude.{IfSome, IsSomeAnd, MatchOption, option_and_then}
 use Rattle.std.specs.Option.{option_to_list}
 use Rattle.std.proofs.lemmas.Bool.{false≢true}
 use Rattle.std.proofs.lemmas.List.{map-append}
 use Rattle.std.proofs.lemmas.List.Elements.{All-append, All-cons, All-nil}
 use Rattle.std.proofs.lemmas.List.Sums.{sum_by-append}
 use Rattle.block_device.specs.DiskSeen.{DiskKind, DiskSeen, HasBlocks, failures_told}
-use Rattle.block_device.specs.RackSeen.{IsAttached, RackSeen}
+use Rattle.block_device.specs.Opening.{IsRackFault}
+use Rattle.block_device.specs.RackSeen.{IsAttached, RackSeen, spec_number}
 use Rattle.block_device.specs.declared.numbered.NumberedDisk.{NumberedDisk}
 use Rattle.block_device.specs.declared.rack.Spec.{Spec}
 use Rattle.block_device.specs.declared.rack.Spec.TheVariants as spec
+use Rattle.block_device.specs.declared.unopened.AttachFault.TheVariants as fault
 use Rattle.joined_disk.specs.JoinedSeen.{StandsFor, joined_seen}
 use Rattle.joined_disk.specs.declared.joined.JoinedDisk.{JoinedDisk}
 use Rattle.volume_disks.specs.Volumes.{IsDiskFor, StopsVolume, VolumeCause, attached_count, second_spec}
@@ -26,9 +28,9 @@ use Rattle.stored_files.specs.Written.{numbered_seen}
 use Rattle.volume_files.specs.Handed.{members_of}
 use Rattle.volume_files.specs.Mounting.{HaltsSpec, Holds, IsGiven, MountsOne, SaysTableRead, UnreadCause, unmounted_as}
 use Rattle.volume_files.specs.Opened.{HasVolumeBlocks, IsVolumeAttached, size_refusal, volume_number}
-use Rattle.volume_files.specs.Unfailed.{NoneCounted, UnlessFailed}
+use Rattle.volume_files.specs.Unfailed.{NoneCounted, UnlessRack}
 use Rattle.stored_files.specs.Written.{OnlyReads}
-use Rattle.volume_files.proofs.Unfailing.{none-told}
+use Rattle.volume_files.proofs.Unfailing.{none-told, rack-failed}
 use Rattle.volume_files.proofs.VolumeSeen.{one_seen}
 
 -- A disk of a volume that wasn't attached whole, if it was attached, by itself.
@@ -150,25 +152,32 @@ module _ {D : Type 0} (seen : D → DiskSeen) (has : (d : D) → HasBlocks (seen
       at (Joined s t mirror) h = joined_halts s t mirror u.first u.second u.why h.one h.two h.cause
 
 -- nobody counted a fault, unless the rack failed
-stop_still : {D : Type 0} (T : Type 0) (seen : D → DiskSeen) (old new : RackSeen) (v : VolumeSpec) (first second : Option (NumberedDisk D)) (why : VolumeStop) → VolumeCause seen old new v first second why
-    → UnlessFailed {T = T} (Err (unmounted_as why)) (new.faults ≡ old.faults)
-stop_still T seen old new v first second (stop.Failed f) c = tt
-stop_still T seen old new v None (Some b) stop.Memory c = absurd c
-stop_still T seen old new v None None stop.Memory c = c
-stop_still T seen old new v (Some a) None stop.Memory c = c.0
-stop_still T seen old new v (Some a) (Some b) stop.Memory c = c.0
-stop_still T seen old new v None (Some b) (stop.Size n) c = absurd c
-stop_still T seen old new v None None (stop.Size n) c = absurd c
-stop_still T seen old new v (Some a) None (stop.Size n) c = absurd c
-stop_still T seen old new v (Some a) (Some b) (stop.Size n) c = c.0
-stop_still T seen old new v None (Some b) stop.Unequal c = absurd c
-stop_still T seen old new v None None stop.Unequal c = absurd c
-stop_still T seen old new v (Some a) None stop.Unequal c = absurd c
-stop_still T seen old new v (Some a) (Some b) stop.Unequal c = c.0
+stop_still : {D : Type 0} (seen : D → DiskSeen) (old new : RackSeen) (v : VolumeSpec) (first second : Option (NumberedDisk D)) (why : VolumeStop) → VolumeCause seen old new v first second why
+    → UnlessRack (unmounted_as why) (new.faults ≡ old.faults)
+stop_still seen old new v None (Some b) (stop.Failed f) c = absurd c
+stop_still seen old new v None None (stop.Failed f) c = rack-failed (new.faults ≡ old.faults) f c.1
+stop_still seen old new v (Some a) None (stop.Failed f) c = rack-failed (new.faults ≡ old.faults) f (some_fault (second_spec v) c)
+  where
+    some_fault : (o : Option Spec) → IsSomeAnd o (λ s. IsRackFault old new (spec_number s) (fault.Failed f)) → f.counts ≡ None
+    some_fault None c = absurd c
+    some_fault (Some s) c = c.1
+stop_still seen old new v (Some a) (Some b) (stop.Failed f) c = absurd c
+stop_still seen old new v None (Some b) stop.Memory c = absurd c
+stop_still seen old new v None None stop.Memory c = c
+stop_still seen old new v (Some a) None stop.Memory c = c.0
+stop_still seen old new v (Some a) (Some b) stop.Memory c = c.0
+stop_still seen old new v None (Some b) (stop.Size n) c = absurd c
+stop_still seen old new v None None (stop.Size n) c = absurd c
+stop_still seen old new v (Some a) None (stop.Size n) c = absurd c
+stop_still seen old new v (Some a) (Some b) (stop.Size n) c = c.0
+stop_still seen old new v None (Some b) stop.Unequal c = absurd c
+stop_still seen old new v None None stop.Unequal c = absurd c
+stop_still seen old new v (Some a) None stop.Unequal c = absurd c
+stop_still seen old new v (Some a) (Some b) stop.Unequal c = c.0
 
-pub volume_still : {D : Type 0} (T : Type 0) (seen : D → DiskSeen) (old new : RackSeen) (v : VolumeSpec) (u : Unattached D) (how : OpenStop) → StopsVolume seen old new v u → how ≡ unmounted_as u.why
-    → UnlessFailed {T = T} (Err how) (new.faults ≡ old.faults)
-volume_still T seen old new v u how h why = subst (λ (x : OpenStop). UnlessFailed {T = T} (Err x) (new.faults ≡ old.faults)) (sym why) (stop_still T seen old new v u.first u.second u.why h.cause)
+pub volume_still : {D : Type 0} (seen : D → DiskSeen) (old new : RackSeen) (v : VolumeSpec) (u : Unattached D) (how : OpenStop) → StopsVolume seen old new v u → how ≡ unmounted_as u.why
+    → UnlessRack how (new.faults ≡ old.faults)
+volume_still seen old new v u how h why = subst (λ (x : OpenStop). UnlessRack x (new.faults ≡ old.faults)) (sym why) (stop_still seen old new v u.first u.second u.why h.cause)
 
 -- Each of its disks is one disk, which counted no fault.
 abbrev IsFresh : {D : Type 0} → (D → DiskSeen) → NumberedDisk D → Type 0

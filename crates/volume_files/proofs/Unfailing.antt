@@ -3,6 +3,7 @@ use Rattle.std.proofs.Common.{◌≡◌, ℕ, Bool, true, false, List, [], ◌�
 use Rattle.std.specs.Prelude.{All, IfSome, if◌then◌else◌, Option, None, Some, Result, Ok, Err, option_map}
 use Rattle.std.proofs.lemmas.List.Elements.{All-nil, All-cons, All-head, All-tail}
 use Rattle.block_device.specs.DiskSeen.{DiskSeen, failures_told}
+use Rattle.block_device.specs.OpenSeen.{OpenFaultSeen}
 use Rattle.volume_files.specs.declared.stops.OpenStop.{OpenStop}
 use Rattle.volume_files.specs.declared.stops.OpenStop.TheVariants as halt
 use Rattle.block_device.specs.declared.numbered.NumberedDisk.{NumberedDisk}
@@ -12,9 +13,10 @@ use Rattle.volume_files.specs.declared.table_files.PlaceStop.TheVariants as stop
 use Rattle.volume_files.specs.Attached.{bare_disks}
 use Rattle.stored_files.specs.Written.{numbered_seen}
 use Rattle.volume_files.specs.Handed.{AreUncounted}
+use Rattle.volume_files.specs.Mounting.{UngivenCause}
 use Rattle.volume_files.specs.Opened.{OpenedFile}
 use Rattle.volume_files.specs.Placing.{PlaceStopped, open_stop_of}
-use Rattle.volume_files.specs.Unfailed.{NoneCounted, UnlessFailed}
+use Rattle.volume_files.specs.Unfailed.{NoneCounted, UnlessFailed, UnlessRack}
 use Rattle.stored_files.specs.Uncut.{counts_of}
 
 -- ---- what is said unless something failed
@@ -41,6 +43,38 @@ unless-halted S T (halt.Failed x) f p = tt
 -- where memory lacked
 pub where-lacked : {T P : Type 0} (r : Result T OpenStop) (e : OpenStop) → r ≡ Err e → e ≡ halt.Memory → UnlessFailed r P → P
 where-lacked {T} {P} r e is memory p = subst (λ (x : Result T OpenStop). UnlessFailed x P) (is ∙ ap (λ (y : OpenStop). Err y) memory) p
+
+-- whatever stopped it
+pub rack-anyway : {P : Type 0} (how : OpenStop) → P → UnlessRack how P
+rack-anyway halt.Memory p = p
+rack-anyway (halt.Refused r) p = p
+rack-anyway {P} (halt.Failed f) p = by f.counts
+  where
+    by : (c : Option (ℕ × ℕ)) → IfSome c (λ counts. P)
+    by None = tt
+    by (Some c) = p
+
+pub unless-rack : {P Q : Type 0} (how : OpenStop) → (P → Q) → UnlessRack how P → UnlessRack how Q
+unless-rack halt.Memory f p = f p
+unless-rack (halt.Refused r) f p = f p
+unless-rack {P} {Q} (halt.Failed x) f p = by x.counts p
+  where
+    by : (c : Option (ℕ × ℕ)) → IfSome c (λ counts. P) → IfSome c (λ counts. Q)
+    by None q = tt
+    by (Some c) q = f q
+
+-- a fault of the rack has no counts
+pub rack-failed : (P : Type 0) (f : OpenFaultSeen) → f.counts ≡ None → UnlessRack (halt.Failed f) P
+rack-failed P f none = subst (λ (c : Option (ℕ × ℕ)). IfSome c (λ counts. P)) (sym none) tt
+
+-- the swap disk wasn't given
+pub swap-racked : {T : Type 0} (P : Type 0) (number old new : ℕ) (how : OpenStop) (r : Result T OpenStop) → r ≡ Err how → UngivenCause number old new how → UnlessFailed r P → UnlessRack how P
+swap-racked {T} P number old new how r is c p = by how c (subst (λ (x : Result T OpenStop). UnlessFailed x P) is p)
+  where
+    by : (e : OpenStop) → UngivenCause number old new e → UnlessFailed {T = T} (Err e) P → UnlessRack e P
+    by halt.Memory c q = q
+    by (halt.Refused x) c q = absurd c
+    by (halt.Failed f) c q = rack-failed P f c.1
 
 -- ---- counts of lists of disks
 

@@ -1,5 +1,5 @@
 -- What is said unless a device failed. Inside: no clause of `run` cites this.
-use Rattle.std.specs.Prelude.{ℕ, ◌≡◌, All, List, Result, Ok, Err}
+use Rattle.std.specs.Prelude.{ℕ, ◌≡◌, All, IfSome, List, Result, Ok, Err}
 use Rattle.block_device.specs.DiskSeen.{DiskSeen, failures_told}
 use Rattle.volume_files.specs.declared.stops.OpenStop.{OpenStop}
 use Rattle.volume_files.specs.declared.stops.OpenStop.TheVariants as halt
@@ -10,6 +10,16 @@ UnlessFailed (Ok done) P = P
 UnlessFailed (Err halt.Memory) P = P
 UnlessFailed (Err (halt.Refused r)) P = P
 UnlessFailed (Err (halt.Failed f)) P = Unit {0}
+
+-- Of a stop as disks are attached: unless the rack failed. A fault of a disk has counts.
+abbrev pub UnlessRack : OpenStop → Type 0 → Type 0
+UnlessRack (halt.Failed f) P = IfSome f.counts (λ counts. P)
+UnlessRack why P = P
+
+-- As disks are attached: unless the rack failed.
+abbrev pub UnlessUngiven : {T : Type 0} → Result T OpenStop → Type 0 → Type 0
+UnlessUngiven (Ok done) P = P
+UnlessUngiven (Err how) P = UnlessRack how P
 
 -- No disk tells one.
 abbrev pub NoneCounted : List (ℕ × DiskSeen) → Type 0

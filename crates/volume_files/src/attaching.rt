@@ -6,7 +6,7 @@ ghost use Rattle.volume_files.specs.Attached.{AreAttached, HasRooms, StopsEarly,
 ghost use Rattle.volume_files.specs.Handed.{AreUncounted, IsSwapAsGiven, IsSwapFor, member_count, swap_members};
 ghost use Rattle.joined_disk.specs.JoinedSeen.{joined_seen};
 ghost use Rattle.volume_files.specs.Mounting.{HoldSame, UngivenCause};
-ghost use Rattle.volume_files.specs.Unfailed.{UnlessFailed};
+ghost use Rattle.volume_files.specs.Unfailed.{UnlessFailed, UnlessRack};
 
 use crate::mounting::mount_all;
 use crate::stops::{HandedBack, OpenStop};
@@ -161,8 +161,8 @@ fn attach_within<R: Rack>(
     ensures uncounted { IfOk result (λ a.
         AreUncounted (bare_disks (attached_seen (joined_seen (single_seen R.D.seen)) a).disks)
         (attached_seen (joined_seen (single_seen R.D.seen)) a).swap) }
-    ensures lacks { IfErr result (λ s. s.why ≡ OpenStop.Memory
-        → (R.seen rack.new).faults ≡ (R.seen rack.old).faults) }
+    ensures rack { IfErr result (λ s. UnlessRack s.why
+        ((R.seen rack.new).faults ≡ (R.seen rack.old).faults)) }
     ensures lacked { IfErr result (λ s. s.why ≡ OpenStop.Memory
         → AreUncounted (map (joined_seen (single_seen R.D.seen)) s.disks.items)
         (option_map (joined_seen (single_seen R.D.seen)) s.swap)) }
@@ -213,8 +213,8 @@ pub fn attach<R: Rack>(
     ensures uncounted { IfOk result (λ a.
         AreUncounted (bare_disks (attached_seen (joined_seen (single_seen R.D.seen)) a).disks)
         (attached_seen (joined_seen (single_seen R.D.seen)) a).swap) }
-    ensures lacks { IfErr result (λ s. s.why ≡ OpenStop.Memory
-        → (R.seen rack.new).faults ≡ (R.seen rack.old).faults) }
+    ensures rack { IfErr result (λ s. UnlessRack s.why
+        ((R.seen rack.new).faults ≡ (R.seen rack.old).faults)) }
     ensures lacked { IfErr result (λ s. s.why ≡ OpenStop.Memory
         → AreUncounted (map (joined_seen (single_seen R.D.seen)) s.disks.items)
         (option_map (joined_seen (single_seen R.D.seen)) s.swap)) }

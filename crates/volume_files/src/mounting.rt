@@ -15,7 +15,7 @@ ghost use Rattle.stored_files.specs.Written.{numbered_seen};
 ghost use Rattle.volume_files.specs.Handed.{members_of};
 ghost use Rattle.volume_files.specs.Mounting.{Holds, HoldSame, SaysTableRead, BadTableCause, UnreadCause, MountsOne, MountsNumber, HaltsNumber, HaltsSpec, Halts, IsOtherDisk, unmounted_as, volumes_seen};
 ghost use Rattle.volume_files.specs.Opened.{given_disk, disk_numbered, is_second, joined_by, joined_to, second_numbered, setup_volumes, volume_numbered};
-ghost use Rattle.volume_files.specs.Unfailed.{NoneCounted, UnlessFailed};
+ghost use Rattle.volume_files.specs.Unfailed.{NoneCounted, UnlessFailed, UnlessUngiven};
 ghost use Rattle.stored_files.specs.Written.{OnlyReads};
 
 use crate::stops::{OpenStop, Refusal};
@@ -242,8 +242,8 @@ fn mount<R: Rack>(
         → ForSome (second_spec volume.now) (λ t. spec_number s ≢ spec_number t)
         → (R.seen rack.new).holds s ≡ (R.seen rack.old).holds s }
     ensures later { (R.seen rack.old).faults ≤ (R.seen rack.new).faults }
-    // Unless the rack or a disk failed, none counted a fault.
-    ensures steady { UnlessFailed result
+    // Unless the rack failed, it counted no fault; unless it or a disk failed, no disk tells one.
+    ensures steady { UnlessUngiven result
         ((R.seen rack.new).faults ≡ (R.seen rack.old).faults) }
     ensures uncounted { UnlessFailed result
         (NoneCounted (volumes_seen (single_seen R.D.seen) disks.old.items)
@@ -301,8 +301,8 @@ fn mount_numbered<R: Rack>(
     ensures others { (s : Spec) → IsOtherDisk setup.now number s
         → (R.seen rack.new).holds s ≡ (R.seen rack.old).holds s }
     ensures later { (R.seen rack.old).faults ≤ (R.seen rack.new).faults }
-    // Unless the rack or a disk failed, none counted a fault.
-    ensures steady { UnlessFailed result
+    // Unless the rack failed, it counted no fault; unless it or a disk failed, no disk tells one.
+    ensures steady { UnlessUngiven result
         ((R.seen rack.new).faults ≡ (R.seen rack.old).faults) }
     ensures uncounted { UnlessFailed result
         (NoneCounted (volumes_seen (single_seen R.D.seen) disks.old.items)
@@ -351,8 +351,8 @@ pub fn mount_all<R: Rack>(
         (volumes_seen (single_seen R.D.seen) disks.new.items)) }
     // What else holds.
     ensures later { (R.seen rack.old).faults ≤ (R.seen rack.new).faults }
-    // Unless the rack or a disk failed, none counted a fault.
-    ensures steady { UnlessFailed result
+    // Unless the rack failed, it counted no fault; unless it or a disk failed, no disk tells one.
+    ensures steady { UnlessUngiven result
         ((R.seen rack.new).faults ≡ (R.seen rack.old).faults) }
     ensures uncounted { UnlessFailed result
         (NoneCounted (volumes_seen (single_seen R.D.seen) disks.new.items)) }

@@ -1,15 +1,19 @@
-use Rattle.std.proofs.Common.{arith, rules, ◌+◌, ◌∙◌, ℕ, ap, refl, subst, sym}
+use Rattle.std.proofs.Common.{◌≡◌, arith, rules, ◌+◌, ◌∙◌, ℕ, ap, refl, subst, sym}
 use Rattle.std.specs.Prelude.{map, option_map}
 use Rattle.volume_files.proofs.DiskCounts.{count-as, count-read}
 use Rattle.volume_files.specs.Attached.{ArePlaced, StopsEarly, attached_seen}
 use Rattle.volume_files.specs.joined_disk.JoinedSeen.{joined_seen}
 use Rattle.volume_files.specs.volume_disks.Singles.{single_seen}
+use Rattle.run_endings.specs.Ending.{IsQuiet}
+use Rattle.run_endings.specs.declared.ending.Ending.{Ending}
+use Rattle.run_outcome.specs.Run.{UnlessRacked}
+use Rattle.run_outcome.proofs.LastLines.{racked-anyway}
 use Rattle.run_outcome.proofs.EarlyEnds.{never-risen, risen-outside, stopped-early}
 use Rattle.run_opening.proofs.ReadyPlans.{is-ready, numbered-playable, placed-as}
 use Rattle.run_kernel.proofs.StartRules.{right-amounts}
 use Rattle.run_opening.proofs.Traced.{stopped-tracing}
 use Rattle.run_report.proofs.Unfailing.{where-ended}
-use Rattle.run_opening.proofs.Unopened.{why-lacked}
+use Rattle.run_opening.proofs.Unopened.{quiet-trace, racked-of}
 use Rattle.run_opening.proofs.ready.ready_plan.Goals as goal
 
 pub returns-in-Err-clause-err : goal.returns-in-Err-clause-err
@@ -118,9 +122,34 @@ returns-in-Err-traced-clause-back g c =
 pub returns-in-Ok-traced-clause-uncounted : goal.returns-in-Ok-traced-clause-uncounted
 returns-in-Ok-traced-clause-uncounted g c = c.in-Ok-traced.ensures.failures (c.in-Ok-place.ensures.uncounted c.in-Ok.ensures.uncounted)
 
+-- the rack counted a fault only where that ended the run
+pub returns-in-Err-clause-racked : goal.returns-in-Err-clause-racked
+returns-in-Err-clause-racked g c =
+    subst (λ (e : Ending). UnlessRacked e ((g.R.Rack.seen c.attach.new.rack).faults ≡ (g.R.Rack.seen c.args.rack.now).faults)) (sym c.stop_unopened.ensures.ending)
+    (racked-of ((g.R.Rack.seen c.attach.new.rack).faults ≡ (g.R.Rack.seen c.args.rack.now).faults) c.in-Err.back.why c.in-Err.ensures.rack)
+
+pub returns-in-Err-place-clause-racked : goal.returns-in-Err-place-clause-racked
+returns-in-Err-place-clause-racked g c = racked-anyway c.stop_unopened-in-Err-place.result.ending c.in-Ok.ensures.steady
+
+pub returns-in-Err-traced-clause-racked : goal.returns-in-Err-traced-clause-racked
+returns-in-Err-traced-clause-racked g c = racked-anyway c.stop_untraced.result.ending c.in-Ok.ensures.steady
+
+-- the sink counted none where memory lacked
 pub returns-in-Err-clause-lacks : goal.returns-in-Err-clause-lacks
-returns-in-Err-clause-lacks g c = λ memory. (c.in-Err.ensures.lacks (why-lacked c.in-Err.back.why (sym c.stop_unopened.ensures.ending ∙ memory)), refl)
+returns-in-Err-clause-lacks g c = λ quiet. refl
+
+pub returns-in-Err-place-clause-lacks : goal.returns-in-Err-place-clause-lacks
+returns-in-Err-place-clause-lacks g c = λ quiet. refl
 
 pub returns-in-Err-traced-clause-lacks : goal.returns-in-Err-traced-clause-lacks
-returns-in-Err-traced-clause-lacks g c = λ memory.
-    (c.in-Ok.ensures.steady, where-ended (Unit {0}) c.in-Err-traced.ending (sym c.stop_untraced.ensures.ending ∙ memory) c.in-Err-traced.ensures.steady)
+returns-in-Err-traced-clause-lacks g c = λ quiet.
+    let holds = (g.R.Rack.seen c.args.rack.now).holds in
+    let a = attached_seen (joined_seen (single_seen g.R.D.Disk.seen)) c.in-Ok-place.placed.attached in
+    let made = c.in-Ok-place.placed.files in
+    let p = c.in-Ok-place.ensures.ok holds c.in-Ok.ensures.ok in
+    let t = c.in-Err-traced.ensures.shows holds p.0 (placed-as c.place.new.plan c.args.plan holds p.0 a made p.2 p.1) in
+    let how = c.in-Err-traced.ending in
+    let k0 = g.K.Sink.seen c.args.out.now in
+    let k1 = g.K.Sink.seen c.traced.new.out in
+    let new = (attached_seen (joined_seen (single_seen g.R.D.Disk.seen)) c.traced.new.placed.attached).disks in
+    where-ended (Unit {0}) how (quiet-trace c.args.options c.place.new.plan p.0 t.0 k0 k1 a.disks new how (subst IsQuiet c.stop_untraced.ensures.ending quiet) t.2) c.in-Err-traced.ensures.steady

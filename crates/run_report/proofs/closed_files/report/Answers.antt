@@ -1,6 +1,7 @@
-use Rattle.std.proofs.Common.{inl, inr}
+use Rattle.std.proofs.Common.{inl, inr, refl}
 use Rattle.page_store.specs.Bays.{pairs_seen}
 use Rattle.volume_files.proofs.DiskLists.{have-written}
+use Rattle.volume_files.proofs.stored_files.WrittenTexts.{wrote_nothing}
 use Rattle.run_report.proofs.closed_files.report.Goals as goal
 
 pub show_report-requires-clause-disks : goal.show_report-requires-clause-disks
@@ -14,4 +15,12 @@ returns-in-Err-Fault-clause-ends g c = inr (inl (record {
   writes = c.write_tables.ensures.keeps;
   tables = (rw c.in-Err-Fault.field-0-is at c.in-Err-Fault.ensures.stop).1;
   ends = c.tell_fault.ensures.ends;
+}))
+
+pub returns-in-Err-Memory-clause-ends : goal.returns-in-Err-Memory-clause-ends
+returns-in-Err-Memory-clause-ends g c = inr (inr (record {
+  memory = refl;
+  writes = c.write_tables.ensures.keeps;
+  tables = inl (rw c.in-Err-Memory.field-0-is at c.in-Err-Memory.ensures.stop);
+  wrote = wrote_nothing (g.K.Sink.seen c.args.out.now);
 }))

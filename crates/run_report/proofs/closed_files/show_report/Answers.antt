@@ -1,11 +1,12 @@
 use Rattle.std.proofs.Common.{◌≡◌, ◌∙◌, ℕ, sym, subst, true, false}
 use Rattle.std.specs.Prelude.{is_some}
 use Rattle.page_store.specs.Bays.{pairs_seen}
+use Rattle.run_endings.specs.Ending.{IsQuiet}
 use Rattle.run_endings.specs.declared.ending.Ending.{Ending}
 use Rattle.run_report.specs.ReportEnds.{ShowEnds}
 use Rattle.volume_files.specs.stored_files.Written.{infos_made}
 use Rattle.run_report.specs.AskedTexts.{middle_text}
-use Rattle.run_report.proofs.Unfailing.{where-ended, where-shown}
+use Rattle.run_report.proofs.Unfailing.{quiet-middle, quiet-shown, where-ended, where-shown}
 use Rattle.run_report.proofs.closed_files.show_report.Goals as goal
 use Rattle.run_report.proofs.Endings.{middle-stopped, without-files, files-stopped}
 use Rattle.volume_files.proofs.stored_files.ShownSections.{all_have_blocks, bytes-of-disks}
@@ -43,8 +44,17 @@ returns-in-Err-show_files-clause-ends g c =
     c.in-Err-show_files.stop s.2)
 
 pub returns-in-Err-clause-hides : goal.returns-in-Err-clause-hides
-returns-in-Err-clause-hides g c = λ memory. where-ended (Unit {0}) c.in-Err.ending memory c.in-Err.ensures.steady
+returns-in-Err-clause-hides g c = λ quiet.
+    where-ended (Unit {0}) c.in-Err.ending
+    (quiet-middle (middle_text c.args.options.now c.args.plan.now c.args.history.now) (g.K.Sink.seen c.args.out.now) (g.K.Sink.seen c.write_middle.new.out) c.in-Err.ending quiet c.in-Err.ensures.stop)
+    c.in-Err.ensures.steady
 
 pub returns-in-Err-show_files-clause-hides : goal.returns-in-Err-show_files-clause-hides
-returns-in-Err-show_files-clause-hides g c = λ memory.
-    where-shown c.in-Err-show_files.stop (sym c.showing_stop.ensures ∙ memory) c.in-Err-show_files.ensures.steady ∙ c.in_default.ensures.steady
+returns-in-Err-show_files-clause-hides g c = λ quiet.
+    where-shown c.in-Err-show_files.stop (quiet-shown c.in-Err-show_files.stop (subst IsQuiet c.showing_stop.ensures quiet)) c.in-Err-show_files.ensures.steady ∙ c.in_default.ensures.steady
+
+pub returns-then-is_some-clause-hides : goal.returns-then-is_some-clause-hides
+returns-then-is_some-clause-hides g c = λ quiet. c.in_default.ensures.steady
+
+pub returns-in-Ok-clause-hides : goal.returns-in-Ok-clause-hides
+returns-in-Ok-clause-hides g c = λ quiet. c.in-Ok.ensures.steady ∙ c.in_default.ensures.steady

@@ -8,6 +8,7 @@ use Rattle.run_opening.specs.Ready.{IsReady}
 use Rattle.volume_files.specs.volume_disks.Singles.{single_seen}
 use Rattle.run_opening.proofs.ReadyPlans.{placed-as}
 use Rattle.vm_run.proofs.RunReady.{start-lacks}
+use Rattle.run_outcome.proofs.LastLines.{racked-anyway}
 use Rattle.vm_run.proofs.beginning.begin_plan.Given.{Over}
 use Rattle.vm_run.proofs.beginning.begin_plan.Goals as goal
 use Rattle.vm_run.proofs.beginning.begin_plan.Goals.{In-Ok}
@@ -63,7 +64,7 @@ pub returns-in-Err-clause-stopped : goal.returns-in-Err-clause-stopped
 returns-in-Err-clause-stopped g c = λ given before after is asked steady.
     record {
       ends = λ st ft. c.in-Err.ensures.err given _ is asked refl refl refl refl st ft;
-      hides = λ memory. let both = c.in-Err.ensures.lacks memory in record { source = steady; rack = both.0; sink = both.1 };
+      once = record { source = λ other. steady; rack = c.in-Err.ensures.racked; sink = c.in-Err.ensures.lacks };
       back = c.in-Err.ensures.back;
       later = c.ready_plan.ensures.sink;
     }
@@ -81,7 +82,7 @@ returns-in-Err-start-clause-stopped g c = λ given before after is asked steady.
     record {
       ends = λ st ft. start-lacks st ft given _ (record { options = c.args.options; plan = c.args.plan }) r.1 r.2 (attached_seen seen c.in-Ok.ready.placed.attached) c.in-Ok.ready.placed.files c.in-Ok.ready.plan
           (g.K.Sink.seen c.ready_plan.new.out) (r.3 given is asked) refl c.in-Ok.ensures.uncounted stop.history (map seen stop.disks.items) (option_map seen stop.swap) stop.ending e.entries e.counts e.memory e.same.0 e.same.1;
-      hides = λ memory. record { source = steady; rack = served.0; sink = served.1 };
+      once = record { source = λ other. steady; rack = racked-anyway stop.ending served.0; sink = λ quiet. served.1 };
       back = omega (arith, kept, disks, swap);
       later = c.ready_plan.ensures.sink;
     }

@@ -7,6 +7,7 @@ use Rattle.volume_files.specs.vm_types.declared.call.Entry.{Entry}
 use Rattle.printed_traces.specs.Printed.{HasToldCounts}
 use Rattle.volume_files.specs.Handed.{kinds_of}
 use Rattle.volume_files.proofs.DiskCounts.{members-kinds}
+use Rattle.run_outcome.proofs.LastLines.{racked-anyway}
 use Rattle.run_opening.specs.Ready.{IsReady}
 use Rattle.run_kernel.specs.Played.{KernelLeaves, left_seen}
 use Rattle.volume_files.specs.Opened.{opening_flat}
@@ -93,7 +94,7 @@ returns g c = λ given before after r0 r1 k0 what files bytes a made start opt r
           (subst (All (λ (x : Entry). HasToldCounts x.reply)) c.entries.ensures c.counts_law.ensures) done.is_whole
           (λ all. subst (Told plan) (sym history) (run.played.told (sym c.close_kernel-played.ensures.whole ∙ all))) (subst (ToldFront plan) (sym history) run.played.front)
           e.0 stop.ending (g.K.Sink.seen c.end_run.new.out) refl e.2 stop.history (map seen stop.disks.items) (option_map seen stop.swap) c.end_run.ensures.history e.1 (ap (option_map seen) c.end_run.ensures.swap);
-      hides = λ memory. record { source = steady; rack = run.begun.rack; sink = c.end_run.ensures.hides memory ∙ still };
+      once = record { source = λ other. steady; rack = racked-anyway stop.ending run.begun.rack; sink = λ quiet. c.end_run.ensures.hides quiet ∙ still };
       back = omega (arith, attached, count, disks, swap);
       later = omega (arith, still, later);
     }

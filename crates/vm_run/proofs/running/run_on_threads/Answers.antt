@@ -12,6 +12,7 @@ use Rattle.run_endings.specs.declared.ending.Ending.TheVariants.{Memory}
 use Rattle.volume_files.specs.volume_disks.Singles.{single_seen}
 use Rattle.run_outcome.proofs.CameBack.{few-outcome}
 use Rattle.run_outcome.proofs.EarlyEnds.{bare-back, stopped-asking}
+use Rattle.run_outcome.proofs.LastLines.{racked-anyway}
 use Rattle.run_outcome.proofs.PrintedTraces.{prints-trace}
 use Rattle.run_outcome.proofs.RunsHanded.{hands-none, was-run}
 use Rattle.run_outcome.proofs.TextsTold.{asked-told, one-asked-told}
@@ -46,7 +47,7 @@ returns-in-Err g c = λ given before after is asked steady.
     let stopped : HasStopped told (with_sink o sink) seen c.bare_stop.result = record {
       ends = λ st ft. stopped-asking st ft told _ sink refl refl seen c.bare_stop.result Memory c.bare_stop.ensures.ending c.bare_stop.ensures.entries
           c.bare_stop.ensures.counts c.bare_stop.ensures.disks c.bare_stop.ensures.swap tt;
-      hides = λ memory. record { source = steady; rack = refl; sink = refl };
+      once = record { source = λ other. steady; rack = racked-anyway c.bare_stop.result.ending refl; sink = λ quiet. refl };
       back = bare-back seen c.bare_stop.result rack.attached c.bare_stop.ensures.disks c.bare_stop.ensures.swap;
       later = omega arith;
     } in

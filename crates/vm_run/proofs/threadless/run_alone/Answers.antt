@@ -1,4 +1,4 @@
-use Rattle.std.proofs.Common.{◌∙◌, ap, arith, map, refl, sym}
+use Rattle.std.proofs.Common.{◌∙◌, ap, arith, map, refl, subst, sym}
 use Rattle.std.specs.Prelude.{option_map, string_bytes}
 use Rattle.std.specs.Prelude.{◌==◌}
 use Rattle.std.proofs.lemmas.Bool.{and_parts}
@@ -13,7 +13,9 @@ use Rattle.run_outcome.proofs.EarlyEnds.{bare-back, stopped-asking, stopped-chec
 use Rattle.run_outcome.proofs.PrintedTraces.{prints-trace}
 use Rattle.run_outcome.proofs.RunsHanded.{hands-none, was-run}
 use Rattle.run_outcome.proofs.TextsTold.{checked-told, stops-told}
-use Rattle.run_input.proofs.Unread.{where-read}
+use Rattle.run_endings.specs.Ending.{IsQuiet}
+use Rattle.run_outcome.proofs.LastLines.{racked-anyway}
+use Rattle.run_input.proofs.Unread.{quiet-answer, unless-not-read}
 use Rattle.vm_run.proofs.threadless.run_alone.Goals as goal
 
 pub run_whole-requires-clause-may : goal.run_whole-requires-clause-may
@@ -43,7 +45,11 @@ returns-in-Ok-Check-clause-ends g c =
       ends = λ st ft. stopped-checking st ft told _ c.in-Ok-Check.answer (g.K.Sink.seen c.args.out.now) (g.K.Sink.seen c.tell_answer-ending.new.out) refl refl t.2
           seen c.bare_stop.result c.tell_answer-ending.result c.bare_stop.ensures.ending c.bare_stop.ensures.entries
           c.bare_stop.ensures.counts c.bare_stop.ensures.disks c.bare_stop.ensures.swap c.tell_answer-ending.ensures.told;
-      hides = λ memory. record { source = c.in-Ok-Check.ensures.steady; rack = refl; sink = c.tell_answer-ending.ensures.lacks (sym c.bare_stop.ensures.ending ∙ memory) };
+      once = record {
+        source = λ other. c.in-Ok-Check.ensures.steady;
+        rack = racked-anyway c.bare_stop.result.ending refl;
+        sink = λ quiet. c.tell_answer-ending.ensures.lacks (quiet-answer c.in-Ok-Check.answer (g.K.Sink.seen c.args.out.now) (g.K.Sink.seen c.tell_answer-ending.new.out) c.tell_answer-ending.result c.tell_answer-ending.ensures.told (subst IsQuiet c.bare_stop.ensures.ending quiet));
+      };
       back = bare-back seen c.bare_stop.result rack.attached c.bare_stop.ensures.disks c.bare_stop.ensures.swap;
       later = c.tell_answer-ending.ensures.later;
     } in
@@ -65,7 +71,11 @@ returns-in-Err-clause-ends g c =
     let stopped : HasStopped told (with_sink o sink) seen c.bare_stop-in-Err.result = record {
       ends = λ st ft. stopped-asking st ft told _ sink refl refl seen c.bare_stop-in-Err.result c.in-Err.ending c.bare_stop-in-Err.ensures.ending c.bare_stop-in-Err.ensures.entries
           c.bare_stop-in-Err.ensures.counts c.bare_stop-in-Err.ensures.disks c.bare_stop-in-Err.ensures.swap t.2;
-      hides = λ memory. record { source = where-read Request c.in-Err.ending (sym c.bare_stop-in-Err.ensures.ending ∙ memory) c.in-Err.ensures.steady; rack = refl; sink = refl };
+      once = record {
+        source = λ other. unless-not-read Request c.in-Err.ending (λ is. other (c.bare_stop-in-Err.ensures.ending ∙ is)) c.in-Err.ensures.steady;
+        rack = racked-anyway c.bare_stop-in-Err.result.ending refl;
+        sink = λ quiet. refl;
+      };
       back = bare-back seen c.bare_stop-in-Err.result rack.attached c.bare_stop-in-Err.ensures.disks c.bare_stop-in-Err.ensures.swap;
       later = omega arith;
     } in

@@ -13,9 +13,10 @@ use Rattle.stored_files.specs.Written.{numbered_seen}
 use Rattle.volume_files.specs.Handed.{IsSwapAsGiven, IsSwapFor}
 use Rattle.volume_files.specs.Mounting.{Halts}
 use Rattle.volume_files.specs.Opened.{setup_volumes}
+use Rattle.volume_files.specs.Unfailed.{UnlessRack}
 use Rattle.volume_disks.specs.Singles.{single_seen}
 use Rattle.volume_files.proofs.MountEnds.{early, stopped_later, swap_stopped}
-use Rattle.volume_files.proofs.Unfailing.{bare-none, handed-none, swap-told, where-lacked}
+use Rattle.volume_files.proofs.Unfailing.{bare-none, handed-none, swap-racked, swap-told, unless-rack, where-lacked}
 use Rattle.volume_files.proofs.attaching.attach_within.Goals as goal
 
 pub mount_all-requires-clause-right : goal.mount_all-requires-clause-right
@@ -101,3 +102,18 @@ returns-in-Err-mount_all-clause-lacked g c = λ memory.
     let none = where-lacked {T = Unit {0}} (Err c.in-Err-mount_all.how) c.in-Err-mount_all.how refl (sym e.why ∙ memory) c.in-Err-mount_all.ensures.uncounted in
     handed-none seen disks c.in-Ok.swap c.hand_back-in-Err-mount_all.result.disks.items c.hand_back-in-Err-mount_all.result.swap e.disks e.swap
     (record { each = bare-none (map (numbered_seen seen) disks) none; last = swap-told _ c.in-Ok.ensures.unfailed })
+
+-- the rack counted a fault only where it failed
+pub returns-in-Err-clause-rack : goal.returns-in-Err-clause-rack
+returns-in-Err-clause-rack g c =
+    let old = (g.R.Rack.seen c.args.rack.now).faults in
+    let new = (g.R.Rack.seen c.attach_swap.new.rack).faults in
+    subst (λ (w : OpenStop). UnlessRack w (new ≡ old)) (sym c.hand_back.ensures.why)
+    (swap-racked (new ≡ old) 8 old new c.in-Err.how c.attach_swap.result c.in-Err.is c.in-Err.ensures.err c.attach_swap.ensures.steady)
+
+pub returns-in-Err-mount_all-clause-rack : goal.returns-in-Err-mount_all-clause-rack
+returns-in-Err-mount_all-clause-rack g c =
+    let old = (g.R.Rack.seen c.args.rack.now).faults in
+    let new = (g.R.Rack.seen c.mount_all.new.rack).faults in
+    subst (λ (w : OpenStop). UnlessRack w (new ≡ old)) (sym c.hand_back-in-Err-mount_all.ensures.why)
+    (unless-rack c.in-Err-mount_all.how (λ same. same ∙ c.in-Ok.ensures.steady) c.in-Err-mount_all.ensures.steady)

@@ -9,7 +9,7 @@ use Rattle.volume_files.specs.Mounting.{volumes_seen}
 use Rattle.volume_disks.specs.Singles.{single_seen}
 use Rattle.volume_files.proofs.DiskCounts.{members-attached}
 use Rattle.volume_files.proofs.MountVolume.{halts_unread, members_back, mounts_one, none_back, pushed_as, volume_halts, volume_still}
-use Rattle.volume_files.proofs.Unfailing.{none-pushed, none-told, said-anyway, unless-halted}
+use Rattle.volume_files.proofs.Unfailing.{none-pushed, none-told, rack-anyway, said-anyway, unless-halted}
 use Rattle.volume_files.proofs.VolumeSeen.{volume_attached, volume_members, volume_unfailed}
 use Rattle.volume_files.proofs.mounting.mount.Goals as goal
 
@@ -23,7 +23,7 @@ returns-in-Err-clause-err g c =
 
 pub returns-in-Err-clause-steady : goal.returns-in-Err-clause-steady
 returns-in-Err-clause-steady g c =
-    volume_still (Unit {0}) (single_seen g.R.D.Disk.seen) (g.R.Rack.seen c.args.rack.now) (g.R.Rack.seen c.attach_volume.new.rack) c.args.volume.now c.in-Err.back c.unmounted.result c.in-Err.ensures.err c.unmounted.ensures
+    volume_still (single_seen g.R.D.Disk.seen) (g.R.Rack.seen c.args.rack.now) (g.R.Rack.seen c.attach_volume.new.rack) c.args.volume.now c.in-Err.back c.unmounted.result c.in-Err.ensures.err c.unmounted.ensures
 
 pub returns-in-Err-clause-uncounted : goal.returns-in-Err-clause-uncounted
 returns-in-Err-clause-uncounted g c =
@@ -75,6 +75,10 @@ returns-in-Err-read-clause-err g c =
     (volume_attached seen c.whole_law.ensures holds c.args.volume.now c.in-Ok.disk volume) c.read_table-read.ensures.reads (c.read_table-read.ensures.number ∙ volume.number)
     (pushed_as (numbered_seen (joined_seen seen)) c.args.disks.now.items c.push_reserved.new.self.items read (numbered_seen (joined_seen seen) read) c.push_reserved.ensures.items refl)
     c.in-Ok.disk.number (g.R.Rack.seen c.args.rack.now).faults (g.R.Rack.seen c.attach_volume.new.rack).faults c.in-Err-read.how c.read_table-read.ensures.number c.in-Err-read.ensures.err
+
+-- the rack wasn't called behind it
+pub returns-in-Err-read-clause-steady : goal.returns-in-Err-read-clause-steady
+returns-in-Err-read-clause-steady g c = rack-anyway c.in-Err-read.how c.in-Ok.ensures.steady
 
 pub returns-in-Err-read-clause-uncounted : goal.returns-in-Err-read-clause-uncounted
 returns-in-Err-read-clause-uncounted g c =

@@ -10,7 +10,7 @@ use Rattle.volume_files.proofs.JoinedNumbers.{holds_as}
 use Rattle.volume_files.proofs.MountDisks.{HoldsAs}
 use Rattle.volume_files.proofs.MountEnds.{err_then}
 use Rattle.volume_files.proofs.MountStops.{mount_step, halted}
-use Rattle.volume_files.proofs.Unfailing.{unless-failed}
+use Rattle.volume_files.proofs.Unfailing.{unless-failed, unless-rack}
 use Rattle.volume_files.proofs.mounting.mount_all.Goals as goal
 
 pub returns-in_err-mount_numbered-clause-err : goal.returns-in_err-mount_numbered-clause-err
@@ -55,7 +55,7 @@ loop-number-preserved g c =
 pub returns-in_err-mount_numbered-clause-steady : goal.returns-in_err-mount_numbered-clause-steady
 returns-in_err-mount_numbered-clause-steady g c =
     let p = err_from_is_err_and c.from_residual.result c.from_residual.ensures.1 in
-    rw (p.1, p.2) (unless-failed {T = Unit {0}} (Err c.in_err-mount_numbered.field-0.0) (λ same. same ∙ c.loop-number.invariant.steady) c.in_err-mount_numbered.ensures.steady)
+    rw (p.1, p.2) (unless-rack c.in_err-mount_numbered.field-0.0 (λ same. same ∙ c.loop-number.invariant.steady) c.in_err-mount_numbered.ensures.steady)
 
 pub returns-in_err-mount_numbered-clause-uncounted : goal.returns-in_err-mount_numbered-clause-uncounted
 returns-in_err-mount_numbered-clause-uncounted g c =
