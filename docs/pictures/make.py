@@ -343,6 +343,54 @@ def layers():
     p.save()
 
 
+def rooms_of():
+    """The rooms by number, as the comments of crates.txt have them, with their crates."""
+    rooms = []
+    for line in open(os.path.join(HERE, '../../crates.txt')):
+        if line.startswith('# ') and line[2].isdigit():
+            rooms.append((line[2:].strip(), []))
+        elif line.startswith('#'):
+            rooms.append((None, []))
+        elif ':' in line and rooms:
+            rooms[-1][1].append(line.split(':')[0].split()[0])
+    return {int(head.split('.')[0]): (head.split('. ')[1], crates) for head, crates in rooms if head}
+
+
+def rooms():
+    """Each room in its place; an arrow where no other room comes between."""
+    of, left, right, gap = rooms_of(), 15, 625, 26
+    p, boxes = Picture('rooms.svg', 'The ten rooms, and their crates', 900, 0), {}
+
+    def room(number, x, y, wide, high=0):
+        head, crates = of[number]
+        fit = max(2, round(wide / 118))
+        rows = [crates[i:i + fit] for i in range(0, len(crates), fit)]
+        high = max(high, 38 + 18 * len(rows))
+        p.box(x, y, wide, high)
+        p.text(x + wide / 2, y + 22, f'{number}. {head}')
+        for at, row in enumerate(rows):
+            p.text(x + wide / 2, y + 44 + 18 * at, ',  '.join(row), 'small')
+        boxes[number] = x, y, wide, high
+        return y + high + gap
+
+    y = room(10, left, 15, 870)
+    at = room(2, right, y, 260)
+    y = room(9, left, y, 580)
+    y = room(8, left, y, 580)
+    middle = max(y, at)
+    room(1, right, middle, 260)
+    y = room(7, left, middle, 580)
+    y = max(room(5, left, y, 280), room(6, left + 300, y, 280))
+    y = room(4, left, y, 580)
+    y = room(3, left, y, 580)
+    for one, other, x in ((10, 9, 305), (10, 2, 755), (9, 8, 305), (8, 7, 305), (7, 5, 155), (7, 6, 455), (5, 4, 155), (6, 4, 455), (4, 3, 305), (2, 1, 755)):
+        p.arrow(x, boxes[one][1] + boxes[one][3], x, boxes[other][1] - 2)
+    p.arrow(595, middle + 28, right - 2, middle + 28)
+    p.text(450, y + 4, 'an arrow leads to what a room stands on, and so on what lies below that', 'small')
+    p.head = p.head.replace('0 0 900 0', f'0 0 900 {y + 20}')
+    p.save()
+
+
 if __name__ == '__main__':
-    for draw in (layers, page_life, fault, fork, cell, turn, two_loads, marks):
+    for draw in (layers, rooms, page_life, fault, fork, cell, turn, two_loads, marks):
         draw()

@@ -105,6 +105,16 @@ looks-unused w u v spaces frame fits lt g unlisted free idle clean store places 
     let step : TouchesFrame u v frame = record {
       store = subst (λ (s : StoreSeen). s ≡ record u.store { rows = s.rows; cached = s.cached }) (sym store) refl;
       row = subst (λ (r : Row). SameButBits (row_at u.store.rows frame) r) (sym (row frame)) (record { holder = refl; keeps = refl; gone = refl; snapshot = refl; source = refl });
+      rewritten = (
+        (λ m. elim m [
+          | inl r ↦ inl (sym (ap (λ (x : Row). x.rewritten) (row frame)) ∙ r)
+          | inr x ↦ absurd (drop-none frame (slice_index_or u.hat.places x.place None) (leads frame (slice_index_or u.hat.places x.place None)) refl (ap frame_of (sym (at x.place) ∙ x.there) ∙ ap (λ (k : ℕ). Some k) x.leads))
+        ]),
+        (λ m. elim m [
+          | inl r ↦ inl (ap (λ (x : Row). x.rewritten) (row frame) ∙ r)
+          | inr x ↦ absurd (let z : true ≡ false = sym x.modified ∙ (g.clear x.place x.translation x.there x.leads).1 in cc)
+        ]),
+      );
       others = λ k ne. row k;
       places = λ place. subst (λ (o : Option Translation). KeepsButBits (slice_index_or u.hat.places place None) o) (sym (at place)) (drop-keeps (slice_index_or u.hat.places place None) (leads frame (slice_index_or u.hat.places place None)));
       leads = λ place ne. at place ∙ drop-other frame (slice_index_or u.hat.places place None) (leads frame (slice_index_or u.hat.places place None)) refl ne;

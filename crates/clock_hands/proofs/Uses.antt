@@ -3,16 +3,17 @@ use Rattle.seg_ops.proofs.hat_layer.FrameLemmas.{leads-true as leads-is}
 use Rattle.seg_ops.proofs.flat_model.Starts.{or_cases as either-is}
 use Rattle.seg_ops.proofs.flat_model.Ranges.{both_true as both}
 use Rattle.std.proofs.Common.{◌≡◌, ◌≢◌, ℕ, zero, suc, ◌<◌, ◌==◌, ◌||◌, ◌&&◌, Bool, true, false, cond, List, [], ◌∷◌, length, Option, Some, None, refl, sym, ap, ◌∙◌, inl, inr, subst, get_or-set_same, get_or-set_other}
-use Rattle.std.specs.Prelude.{slice_index_or, option_map, IsSome}
+use Rattle.std.specs.Prelude.{◌↔◌, slice_index_or, option_map, IsSome}
 use Rattle.std.specs.List.{list_any}
 use Rattle.std.proofs.lemmas.Bool.{eq-eqb, eqb-true, or_left as or-left, or_right as or-right}
 use Rattle.seg_ops.specs.hat_layer.Pool.{HatSeen, frame_of, leads, has_bit, bits_of, change_lead, change_frame, with_clear_bits}
 use Rattle.seg_ops.specs.hat_layer.declared.translation.Translation.{Translation}
-use Rattle.seg_ops.specs.page_lock.Rows.{row_at, clear_row, with_bits}
+use Rattle.seg_ops.specs.page_lock.Rows.{row_at, clear_row, with_bits_added, with_use}
 use Rattle.seg_ops.specs.page_lock.declared.Row.{Row}
 use Rattle.seg_ops.specs.page_store.Seen.{StoreSeen, IsListedFrame}
 use Rattle.seg_ops.specs.page_store.Steps.{with_row}
 use Rattle.seg_ops.specs.Steps.{with_bits_gathered}
+use Rattle.seg_ops.proofs.Modified.{is_modified, is_rewritten, says}
 use Rattle.seg_ops.proofs.Places.{index-map}
 use Rattle.seg_ops.proofs.StillSteps.{with_tables, memory_of}
 use Rattle.seg_ops.specs.vm_world.MemoryFits.{MemoryFits}
@@ -93,6 +94,7 @@ pub touches-none : (w : World) (frame : ℕ) → TouchesFrame w w frame
 touches-none w frame = record {
   store = refl;
   row = record { holder = refl; keeps = refl; gone = refl; snapshot = refl; source = refl };
+  rewritten = ((λ m. m), (λ m. m));
   others = λ k ne. refl;
   places = λ place. keeps-same (slice_index_or w.hat.places place None);
   leads = λ place ne. refl;
@@ -110,6 +112,7 @@ touches-then u v w frame a b = record {
     snapshot = b.row.snapshot ∙ a.row.snapshot;
     source = b.row.source ∙ a.row.source;
   };
+  rewritten = ((λ m. a.rewritten.0 (b.rewritten.0 m)), (λ m. b.rewritten.1 (a.rewritten.1 m)));
   others = λ k ne. b.others k ne ∙ a.others k ne;
   places = λ place. keeps-then (slice_index_or u.hat.places place None) (slice_index_or v.hat.places place None) (slice_index_or w.hat.places place None) (a.places place) (b.places place);
   leads = λ place ne. let same = a.leads place ne in b.leads place (λ e. ne (sym (ap frame_of same) ∙ e)) ∙ same;
@@ -124,8 +127,8 @@ module _ (w : World) (new : StoreSeen) (hat : HatSeen) (frame : ℕ) (lt : frame
   abbrev was : Row
   was = row_at w.store.rows frame
 
-  row : row_at new.rows frame ≡ with_bits was (was.referenced || told.0) (was.modified || told.1)
-  row = ap (λ (s : StoreSeen). row_at s.rows frame) is ∙ get_or-set_same w.store.rows frame (with_bits was (was.referenced || told.0) (was.modified || told.1)) clear_row lt
+  row : row_at new.rows frame ≡ with_bits_added was told.0 told.1
+  row = ap (λ (s : StoreSeen). row_at s.rows frame) is ∙ get_or-set_same w.store.rows frame (with_bits_added was told.0 told.1) clear_row lt
 
   at : (place : ℕ) → slice_index_or hat.places place None ≡ change_lead frame with_clear_bits (slice_index_or w.hat.places place None)
   at place = ap (λ (ps : List (Option Translation)). slice_index_or ps place None) places ∙ index-map (change_lead frame with_clear_bits) w.hat.places place refl
@@ -133,18 +136,19 @@ module _ (w : World) (new : StoreSeen) (hat : HatSeen) (frame : ℕ) (lt : frame
   clear : (place : ℕ) (t : Translation) → slice_index_or hat.places place None ≡ Some t → t.frame ≡ frame → (t.referenced ≡ false) × (t.modified ≡ false)
   clear place t here to = cleared-one frame (slice_index_or w.hat.places place None) t (leads frame (slice_index_or w.hat.places place None)) refl (sym (at place) ∙ here) to
 
-  same-modified : SameModified w (with_tables w new hat) frame
-  same-modified = (
+  -- what is said of the page by a bit to which what was told of stores is added
+  same-said : (bit : Row → Bool) → bit (with_bits_added was told.0 told.1) ≡ (bit was || told.1) → says bit new hat.places frame ↔ says bit w.store w.hat.places frame
+  same-said bit adds = (
     (λ m. elim m [
-      | inl r ↦ elim (either-is was.modified told.1 (sym (ap (λ (x : Row). x.modified) row) ∙ r)) [
+      | inl r ↦ elim (either-is (bit was) told.1 (sym (ap bit row ∙ adds) ∙ r)) [
         | inl old ↦ inl old
         | inr said ↦ let h = any-has (λ t. t.modified) frame w.hat.places said in inr (record { place = h.place; translation = h.translation; there = h.there; leads = h.leads_there; modified = h.set })
       ]
       | inr x ↦ absurd (let z : true ≡ false = sym x.modified ∙ (clear x.place x.translation x.there x.leads).1 in cc)
     ]),
     (λ m. elim m [
-      | inl old ↦ inl (ap (λ (x : Row). x.modified) row ∙ or-left was.modified told.1 old)
-      | inr x ↦ inl (ap (λ (x : Row). x.modified) row ∙ or-right was.modified told.1 (has-any (λ t. t.modified) frame w.hat.places x.place x.translation x.there x.leads x.modified))
+      | inl old ↦ inl (ap bit row ∙ adds ∙ or-left (bit was) told.1 old)
+      | inr x ↦ inl (ap bit row ∙ adds ∙ or-right (bit was) told.1 (has-any (λ t. t.modified) frame w.hat.places x.place x.translation x.there x.leads x.modified))
     ]),
   )
 
@@ -168,12 +172,13 @@ module _ (w : World) (new : StoreSeen) (hat : HatSeen) (frame : ℕ) (lt : frame
     touches = record {
       store = subst (λ (s : StoreSeen). s ≡ record w.store { rows = s.rows; cached = s.cached }) (sym is) refl;
       row = subst (λ (r : Row). SameButBits was r) (sym row) (record { holder = refl; keeps = refl; gone = refl; snapshot = refl; source = refl });
-      others = λ k ne. ap (λ (s : StoreSeen). row_at s.rows k) is ∙ get_or-set_other w.store.rows frame k (with_bits was (was.referenced || told.0) (was.modified || told.1)) clear_row ne;
+      rewritten = same-said is_rewritten refl;
+      others = λ k ne. ap (λ (s : StoreSeen). row_at s.rows k) is ∙ get_or-set_other w.store.rows frame k (with_bits_added was told.0 told.1) clear_row ne;
       places = λ place. subst (λ (o : Option Translation). KeepsButBits (slice_index_or w.hat.places place None) o) (sym (at place)) (keeps-one (slice_index_or w.hat.places place None) (leads frame (slice_index_or w.hat.places place None)));
       leads = λ place ne. at place ∙ elsewhere-one frame (slice_index_or w.hat.places place None) (leads frame (slice_index_or w.hat.places place None)) refl ne;
       tables = refl;
     };
-    modified = same-modified;
+    modified = same-said is_modified refl;
     referenced = same-referenced;
     loaded = λ place some. subst (λ (o : Option Translation). IsSome o) (sym (at place)) (loaded-one (slice_index_or w.hat.places place None) (leads frame (slice_index_or w.hat.places place None)) some);
     cached = ap (λ (s : StoreSeen). s.cached) is;
@@ -192,14 +197,19 @@ gathers-none w spaces frame fits listed = record {
 }
 
 -- THE FRONT HAND: the row's reference bit is cleared, once the bits are gathered.
-pub front-clears : (w u v : World) (frame : ℕ) → frame < length u.store.rows → GathersUse w u frame → v ≡ record u { store = v.store } → v.store ≡ with_row u.store frame (with_bits (row_at u.store.rows frame) false (row_at u.store.rows frame).modified) → FrontClears w v frame
+pub front-clears : (w u v : World) (frame : ℕ) → frame < length u.store.rows → GathersUse w u frame → v ≡ record u { store = v.store } → v.store ≡ with_row u.store frame (with_use (row_at u.store.rows frame) false) → FrontClears w v frame
 front-clears w u v frame lt g rest store =
-    let now : Row = with_bits (row_at u.store.rows frame) false (row_at u.store.rows frame).modified in
+    let now : Row = with_use (row_at u.store.rows frame) false in
     let row : row_at v.store.rows frame ≡ now = ap (λ (s : StoreSeen). row_at s.rows frame) store ∙ get_or-set_same u.store.rows frame now clear_row lt in
     let places : v.hat.places ≡ u.hat.places = ap (λ (x : World). x.hat.places) rest in
+    let same : (bit : Row → Bool) → bit now ≡ bit (row_at u.store.rows frame) → says bit v.store v.hat.places frame ↔ says bit u.store u.hat.places frame = λ bit kept. (
+      (λ m. elim m [ inl set ↦ inl (sym (ap bit row ∙ kept) ∙ set) | inr x ↦ inr (subst (λ (ps : List (Option Translation)). HasWritten ps frame) places x) ]),
+      (λ m. elim m [ inl set ↦ inl (ap bit row ∙ kept ∙ set) | inr x ↦ inr (subst (λ (ps : List (Option Translation)). HasWritten ps frame) (sym places) x) ]),
+    ) in
     let step : TouchesFrame u v frame = record {
       store = subst (λ (s : StoreSeen). s ≡ record u.store { rows = s.rows; cached = s.cached }) (sym store) refl;
       row = subst (λ (r : Row). SameButBits (row_at u.store.rows frame) r) (sym row) (record { holder = refl; keeps = refl; gone = refl; snapshot = refl; source = refl });
+      rewritten = same is_rewritten refl;
       others = λ k ne. ap (λ (s : StoreSeen). row_at s.rows k) store ∙ get_or-set_other u.store.rows frame k now clear_row ne;
       places = λ place. subst (λ (ps : List (Option Translation)). KeepsButBits (slice_index_or u.hat.places place None) (slice_index_or ps place None)) (sym places) (keeps-same (slice_index_or u.hat.places place None));
       leads = λ place ne. ap (λ (ps : List (Option Translation)). slice_index_or ps place None) places;
@@ -211,10 +221,7 @@ front-clears w u v frame lt g rest store =
         | inl set ↦ (let z : true ≡ false = sym set ∙ ap (λ (x : Row). x.referenced) row in cc)
         | inr x ↦ (let z : true ≡ false = sym x.referenced ∙ (g.clear x.place x.translation (sym (ap (λ (ps : List (Option Translation)). slice_index_or ps x.place None) places) ∙ x.there) x.leads).0 in cc)
       ];
-      modified = (
-        (λ m. g.modified.0 (elim m [ inl set ↦ inl (sym (ap (λ (x : Row). x.modified) row) ∙ set) | inr x ↦ inr (subst (λ (ps : List (Option Translation)). HasWritten ps frame) places x) ])),
-        (λ m. elim (g.modified.1 m) [ inl set ↦ inl (ap (λ (x : Row). x.modified) row ∙ set) | inr x ↦ inr (subst (λ (ps : List (Option Translation)). HasWritten ps frame) (sym places) x) ]),
-      );
+      modified = ((λ m. g.modified.0 ((same is_modified refl).0 m)), (λ m. (same is_modified refl).1 (g.modified.1 m)));
       loaded = λ place some. subst (λ (ps : List (Option Translation)). IsSome (slice_index_or ps place None)) (sym places) (g.loaded place some);
       cached = ap (λ (s : StoreSeen). s.cached) store ∙ g.cached;
     }

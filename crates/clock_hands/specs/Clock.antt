@@ -18,7 +18,7 @@ use Rattle.seg_ops.specs.page_store.declared.residence.Residence.TheVariants.{Ho
 use Rattle.seg_ops.specs.vm_world.declared.wants.Wants.{Wants}
 use Rattle.seg_ops.specs.vm_world.declared.wants.Wants.TheVariants.{Transfer, Seat}
 use Rattle.seg_ops.specs.vm_world.State.{KernelState, KeptPlan}
-use Rattle.seg_ops.specs.vm_world.TranslationsFit.{IsModified}
+use Rattle.seg_ops.specs.vm_world.TranslationsFit.{IsModified, IsRewritten}
 use Rattle.seg_ops.specs.vm_world.World.{World, world_table}
 
 -- A translation leads to the frame and says that it was used.
@@ -54,7 +54,7 @@ abbrev pub IsPushOf : World → ℕ → Plan → Type 0
 IsPushOf w frame (plan.Push name) = IsToPush w frame name
 IsPushOf w frame (plan.Read name) = ⊥
 
--- Two rows that differ in their bits alone: whether the page is referenced, modified, and rewritten since its snapshot.
+-- Two rows that differ in their bits alone.
 pub record SameButBits (old new : Row) : Type 0 where
   pub holder : new.holder ≡ old.holder
   pub keeps : new.keeps ≡ old.keeps
@@ -68,10 +68,16 @@ KeepsButBits old None = Unit {0}
 KeepsButBits None (Some u) = ⊥
 KeepsButBits (Some t) (Some u) = (u.space ≡ t.space) × (u.page ≡ t.page) × (u.frame ≡ t.frame) × (u.writable ≡ t.writable)
 
--- Nothing changed but the bits of one frame, in its row and in its translations, which may be gone, and whether it is on the cache list.
+-- The page in the frame counts as rewritten since its snapshot where it did.
+abbrev pub SameRewritten : World → World → ℕ → Type 0
+SameRewritten old new frame = IsRewritten new.store new.hat.places frame ↔ IsRewritten old.store old.hat.places frame
+
+-- Nothing changed but the bits of one frame, in its row and in its translations, which may be gone, and whether it is on the cache list. Its page counts as
+-- rewritten where it did, so one that is on its way to its disk isn't pushed again for it.
 pub record TouchesFrame (old new : World) (frame : ℕ) : Type 0 where
   pub store : new.store ≡ record old.store { rows = new.store.rows; cached = new.store.cached }
   pub row : SameButBits (row_at old.store.rows frame) (row_at new.store.rows frame)
+  pub rewritten : SameRewritten old new frame
   pub others : (k : ℕ) → k ≢ frame → row_at new.store.rows k ≡ row_at old.store.rows k
   pub places : (place : ℕ) → KeepsButBits (slice_index_or old.hat.places place None) (slice_index_or new.hat.places place None)
   pub leads : (place : ℕ) → frame_of (slice_index_or old.hat.places place None) ≢ Some frame

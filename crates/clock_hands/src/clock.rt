@@ -30,8 +30,7 @@ fn clear_use<D: Disk>(world: &mut World<D>, frame: u32)
     ensures keeps { KeepsEveryPage world.old world.new }
 {
     gather_use(world, frame);
-    let (_referenced, modified) = world.store.bits(frame);
-    world.store.set_bits(frame, false, modified);
+    world.store.set_used(frame, false);
 }
 
 /// The back hand: a page that wasn't used is released, and one that is to be pushed is answered.

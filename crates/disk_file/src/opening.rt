@@ -1,7 +1,8 @@
 //! Opens a file as a disk.
-ghost use Rattle.std.specs.Prelude.{◌≡◌, true, IfOk, IfSome};
+ghost use Rattle.std.specs.Prelude.{◌≡◌, true, None, IfOk, IfSome};
 ghost use Rattle.std.specs.Fs.{new_options, with_read, with_write};
 ghost use Rattle.block_device.specs.Counts.{CountsFailures};
+ghost use Rattle.disk_file.specs.FileDiskLook.{file_disk_seen};
 ghost use Rattle.disk_file.specs.FileDiskSeen.{fresh_file_disk};
 
 use crate::FileDisk;
@@ -21,7 +22,8 @@ fn as_it_is() -> OpenOptions
 // The disk over the file at a path, unless the path isn't text, leads to no regular file that may be read
 // and written, or the file has 2^32 blocks or more.
 fn found_at<R: Files<File = File>>(files: &R, path: &PathText) -> Option<FileDisk<File>>
-    ensures { IfSome result (λ disk. disk ≡ fresh_file_disk disk.size) }
+    ensures { IfSome result (λ disk.
+        file_disk_seen disk ≡ fresh_file_disk None (file_disk_seen disk).size) }
 {
     let path = str::from_utf8(path.bytes()).ok()?;
     let file = as_it_is().open(files, path).ok()?;
@@ -41,7 +43,8 @@ pub fn open<R: Files<File = File>>(
     path: &PathText,
     faults: &mut u64,
 ) -> Result<FileDisk<File>, Failed>
-    ensures disk { IfOk result (λ disk. disk ≡ fresh_file_disk disk.size) }
+    ensures disk { IfOk result (λ disk.
+        file_disk_seen disk ≡ fresh_file_disk None (file_disk_seen disk).size) }
     ensures cause { CountsFailures faults.old faults.new result }
 {
     match found_at(files, path) {

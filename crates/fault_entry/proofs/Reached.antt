@@ -108,7 +108,7 @@ module _ (w : World) (spaces : Spaces) (pending p a n : ℕ) (write : Bool) (f :
 
   signal-serves : (s : Signal) → ((born : set.FinSet nat_cmp) (notes : Notes) → access_target (flat_memory (memory_of w spaces) born notes) p (may_access write) a n ≡ Err s)
       → ServesAccess (memory_of w spaces) (memory_of w spaces) pending pending p a n write (access.Refused s)
-  signal-serves s means = record { mid = w; first = takes-none w w spaces pending (keeps-same w spaces f); acts = same-machine; ends = refl; slots = record { counts = refl; places = refl }; due = λ born notes. ap error_in (means born notes); replaced = none-replaced w w; modified = λ m k home is. inr (home, is); hit = tt; means = means }
+  signal-serves s means = record { mid = w; first = takes-none w w spaces pending (keeps-same w spaces f); acts = same-machine; ends = refl; slots = record { counts = refl; places = refl }; due = λ born notes. ap error_in (means born notes); replaced = none-replaced w w; modified = record { modified = λ m k home is. inr (home, is); rewritten = λ m k home is. inr (home, is) }; hit = tt; means = means }
 
   pub align-access : ¬ (a % n ≡ 0) → ServesAccess (memory_of w spaces) (memory_of w spaces) pending pending p a n write (access.Refused signal.Align)
   align-access odd = signal-serves signal.Align (λ born notes. unaligned w spaces born notes p a n (may_access write) odd)

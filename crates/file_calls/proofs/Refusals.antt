@@ -32,7 +32,7 @@ refused w spaces pending p f call e fits of due = record {
   acts = λ cleared. file_calls_law.refused p cleared call e (memory_of w spaces) fits due;
   replaced = none-replaced w w;
   refusal = λ born notes. file_calls_law.due p call f (memory_of w spaces) fits of born notes ∙ ap (option_map reply.Refused) due;
-  modified = λ n frame home m. inr (home, m);
+  modified = record { modified = λ n frame home m. inr (home, m); rewritten = λ n frame home m. inr (home, m) };
   clean = λ from n is wants. absurd (let z : reply.Refused e ≡ reply.Synced from = is in cc);
 }
 
@@ -45,7 +45,7 @@ held w spaces pending p seat t calls call fits a = record {
   spaces = refl;
   holds = (a.file, a.of, a.held);
   refusal = λ file. absurd file;
-  modified = λ n frame home m. (home, m);
+  modified = record { modified = λ n frame home m. (home, m); rewritten = λ n frame home m. (home, m) };
 }
 
 -- what is answered whatever seats have the files' calls is no wait for one of these

@@ -9,3 +9,4 @@ pub mod Slots
 pub mod Assembled
 pub mod Protects
 pub mod Growths
+pub mod ObjectPages

@@ -1,18 +1,17 @@
 -- Slots that are left, one part after another, and the number of a new zero object.
 use Rattle.flat_state.proofs.Steps.{not_le}
 use Rattle.std.proofs.Common.{◌≡◌, ℕ, ◌+◌, ◌-◌, ◌<◌, ◌≤◌, Bool, true, false, cond, List, [], ◌∷◌, Option, Some, None, refl, sym, ap, subst, ◌∙◌, arith}
-use Rattle.std.specs.Prelude.{if◌then◌else◌, nat_le, length, Vec, sum_by, filter, is_some, option_map}
+use Rattle.std.specs.Prelude.{if◌then◌else◌, nat_le, length, sum_by, filter, is_some, option_map}
 use Rattle.std.specs.Ordering.{nat_cmp}
 use Rattle.std.specs.FinMap as finite
 use Rattle.std.proofs.lemmas.Bool.{le-leb, leb-true, leb-false}
 use Rattle.std.proofs.lemmas.List.Sums.{sum_by-cons}
 use Rattle.std.proofs.lemmas.List.Kept.{IsStrictlySortedBy-filter}
 use Rattle.flat_model.specs.Flat.{Flat, Space, is_named}
-use Rattle.std.specs.declared.alloc.Global.{Global}
 use Rattle.std.specs.List.Sorted.{IsStrictlySortedBy}
 use Rattle.std.specs.Map.{keys_of, values_of}
-use Rattle.flat_state.specs.Cells.{pages_in_vec}
-use Rattle.flat_state.proofs.Trees.{each, values_mapped, mapped_filter, sum_map, length_map, flat_with as flat_of_spaces}
+use Rattle.flat_model.specs.Words.{Page}
+use Rattle.flat_state.proofs.Trees.{values_plain, plain_filter, flat_with as flat_of_spaces}
 use Rattle.flat_model.specs.Mapping.{new_number}
 use Rattle.flat_state.specs.Mapped.{slots_left, new_number_in}
 use Rattle.flat_model.specs.Spaces.{names_zero}
@@ -91,39 +90,33 @@ is_some_mapped f None = refl
 is_some_mapped f (Some x) = refl
 
 -- the pages of the zero objects of a tree
-pub zero_sum : (es : List (ℕ × Vec (Vec ℕ Global) Global)) → IsStrictlySortedBy nat_cmp (keys_of es) → sum_by length (finite.values (finite.from_entries {R = nat_cmp} (each pages_in_vec es))) ≡ sum_by (λ v. length v.items) (values_of es)
-zero_sum es sorted = ap (sum_by length) (values_mapped pages_in_vec es sorted) ∙ sum_map length pages_in_vec (values_of es) ∙ sizes (values_of es)
-  where
-    sizes : (vs : List (Vec (Vec ℕ Global) Global)) → sum_by (λ v. length (pages_in_vec v)) vs ≡ sum_by (λ v. length v.items) vs
-    sizes [] = refl
-    sizes (v ∷ vs) =
-        sum_by-cons (λ w. length (pages_in_vec w)) v vs ∙ ap (λ n. n + sum_by (λ w. length (pages_in_vec w)) vs) (length_map (λ p. p.items) v.items) ∙ ap (λ n. length v.items + n) (sizes vs)
-        ∙ sym (sum_by-cons (λ w. length w.items) v vs)
+pub zero_sum : (es : List (ℕ × List Page)) → IsStrictlySortedBy nat_cmp (keys_of es) → sum_by length (finite.values (finite.from_entries {R = nat_cmp} es)) ≡ sum_by length (values_of es)
+zero_sum es sorted = ap (sum_by length) (values_plain es sorted)
 
 -- the pages of an entry of the zero objects, if some cell names it
-abbrev pub named_size : finite.FinMap nat_cmp Space → ℕ × Vec (Vec ℕ Global) Global → ℕ
-named_size spaces e = if names_zero spaces e.0 then length e.1.items else 0
+abbrev pub named_size : finite.FinMap nat_cmp Space → ℕ × List Page → ℕ
+named_size spaces e = if names_zero spaces e.0 then length e.1 else 0
 
 -- a tree's entries that are named are the pages of its finite map whose keys are
-pub named_sum : (spaces : finite.FinMap nat_cmp Space) (es : List (ℕ × Vec (Vec ℕ Global) Global)) → IsStrictlySortedBy nat_cmp (keys_of es) → sum_by (named_size spaces) es ≡ sum_by length (finite.values (finite.retain_keys (finite.from_entries {R = nat_cmp} (each pages_in_vec es)) (names_zero spaces)))
+pub named_sum : (spaces : finite.FinMap nat_cmp Space) (es : List (ℕ × List Page)) → IsStrictlySortedBy nat_cmp (keys_of es) → sum_by (named_size spaces) es ≡ sum_by length (finite.values (finite.retain_keys (finite.from_entries {R = nat_cmp} es) (names_zero spaces)))
 named_sum spaces es sorted =
     let kept = filter (λ e. names_zero spaces e.0) es in
     let keys = subst (IsStrictlySortedBy nat_cmp) (sym (keys_kept es)) (IsStrictlySortedBy-filter nat_cmp (names_zero spaces) (keys_of es) sorted) in
-    sizes es ∙ sym (zero_sum kept keys) ∙ ap (λ m. sum_by length (finite.values m)) (mapped_filter pages_in_vec (names_zero spaces) es)
+    sizes es ∙ sym (zero_sum kept keys) ∙ ap (λ m. sum_by length (finite.values m)) (plain_filter (names_zero spaces) es)
   where
-    keys_one : (b : Bool) (e : ℕ × Vec (Vec ℕ Global) Global) (fs : List (ℕ × Vec (Vec ℕ Global) Global)) → keys_of (cond b (e ∷ fs) fs) ≡ cond b (e.0 ∷ keys_of fs) (keys_of fs)
+    keys_one : (b : Bool) (e : ℕ × List Page) (fs : List (ℕ × List Page)) → keys_of (cond b (e ∷ fs) fs) ≡ cond b (e.0 ∷ keys_of fs) (keys_of fs)
     keys_one true e fs = refl
     keys_one false e fs = refl
 
-    keys_kept : (fs : List (ℕ × Vec (Vec ℕ Global) Global)) → keys_of (filter (λ e. names_zero spaces e.0) fs) ≡ filter (names_zero spaces) (keys_of fs)
+    keys_kept : (fs : List (ℕ × List Page)) → keys_of (filter (λ e. names_zero spaces e.0) fs) ≡ filter (names_zero spaces) (keys_of fs)
     keys_kept [] = refl
     keys_kept (e ∷ fs) = keys_one (names_zero spaces e.0) e (filter (λ d. names_zero spaces d.0) fs) ∙ ap (λ ks. cond (names_zero spaces e.0) (e.0 ∷ ks) ks) (keys_kept fs)
 
-    one : (b : Bool) (e : ℕ × Vec (Vec ℕ Global) Global) (fs : List (ℕ × Vec (Vec ℕ Global) Global)) → sum_by (λ (v : Vec (Vec ℕ Global) Global). length v.items) (values_of (cond b (e ∷ fs) fs)) ≡ (if b then length e.1.items else 0) + sum_by (λ v. length v.items) (values_of fs)
-    one true e fs = sum_by-cons (λ v. length v.items) e.1 (values_of fs)
+    one : (b : Bool) (e : ℕ × List Page) (fs : List (ℕ × List Page)) → sum_by (λ (v : List Page). length v) (values_of (cond b (e ∷ fs) fs)) ≡ (if b then length e.1 else 0) + sum_by length (values_of fs)
+    one true e fs = sum_by-cons length e.1 (values_of fs)
     one false e fs = omega arith
 
-    sizes : (fs : List (ℕ × Vec (Vec ℕ Global) Global)) → sum_by (named_size spaces) fs ≡ sum_by (λ v. length v.items) (values_of (filter (λ e. names_zero spaces e.0) fs))
+    sizes : (fs : List (ℕ × List Page)) → sum_by (named_size spaces) fs ≡ sum_by length (values_of (filter (λ e. names_zero spaces e.0) fs))
     sizes [] = refl
     sizes (e ∷ fs) =
         sum_by-cons (named_size spaces) e fs ∙ ap (λ n. named_size spaces e + n) (sizes fs)

@@ -1,12 +1,11 @@
 -- The trees of the slow form, as finite maps: their entries in order, a copy, a key that goes, and keys that stay.
 use Rattle.std.proofs.Common.{◌≡◌, ℕ, Bool, true, false, cond, ◌&&◌, ◌||◌, T, List, [], ◌∷◌, map, Option, Some, None, refl, sym, ap, subst, ◌∙◌, Less, arith}
-use Rattle.std.specs.Prelude.{Vec, vec_len, slice_get, ◌==◌, ◌+◌, sum_by, option_map, filter, is_some, length, slice_set, slice_index_or, ◌<◌, ◌≤◌, zero, suc}
+use Rattle.std.specs.Prelude.{slice_get, ◌==◌, ◌+◌, sum_by, option_map, filter, is_some, length, slice_set, slice_index_or, ◌<◌, ◌≤◌, zero, suc}
 use Rattle.std.specs.FinSet as set
 use Rattle.flat_model.specs.vnode_files.declared.extent.Extent.{Extent}
 use Rattle.flat_model.specs.Access.{with_change_at}
 use Rattle.std.specs.Option.{option_map_or}
-use Rattle.std.specs.List.{AllZip, AllByRecursion, each_same, list_any}
-use Rattle.std.specs.declared.alloc.Global.{Global}
+use Rattle.std.specs.List.{AllZip, AllByRecursion, list_any}
 use Rattle.std.specs.List.Sorted.{IsStrictlySortedBy}
 use Rattle.std.specs.Ordering.{nat_cmp, is_lt, eq_by_cmp}
 use Rattle.std.specs.Cmp.{nat_cmp_total, eq_by_cmp_equiv, unsigned_tied}
@@ -116,6 +115,24 @@ mapped_filter f p es = finite.same_map nat_cmp_total finite.nat_cmp-IsAntisymmet
     kept true r = refl
     kept false r = refl
 
+pub plain_filter : {X : Type 0} (p : ℕ → Bool) (es : List (ℕ × X)) → finite.from_entries {R = nat_cmp} (filter (λ e. p e.0) es) ≡ finite.retain_keys (finite.from_entries es) p
+plain_filter p es = finite.same_map nat_cmp_total finite.nat_cmp-IsAntisymmetric _ _ (λ q.
+    get_at (filter (λ e. p e.0) es) q
+    ∙ lookup-filter-keys (is_at (nat_cmp q)) p (p q) (λ k is. ap p (sym (eqb-true q k (sym (unsigned_tied q k) ∙ is)))) es
+    ∙ sym (get-retain_keys (finite.from_entries es) p q ∙ ap (λ o. cond (p q) o None) (get_at es q)))
+
+-- a copy has the same entries
+pub plain_clone : {X : Type 0} (C : ℕ → ℕ → Type 0) (D : X → X → Type 0) → ((x y : ℕ) → C x y → y ≡ x) → ((v w : X) → D v w → w ≡ v) → (es fs : List (ℕ × X)) → AllZip (λ p q. C p.0 q.0 × D p.1 q.1) es fs → fs ≡ es
+plain_clone C D same alike [] [] h = refl
+plain_clone C D same alike [] (g ∷ fs) h = absurd h
+plain_clone C D same alike (e ∷ es) [] h = absurd h
+plain_clone {X} C D same alike (e ∷ es) (g ∷ fs) h =
+    let key = same e.0 g.0 h.0.0 in
+    let value = alike e.1 g.1 h.0.1 in
+    let rest = plain_clone C D same alike es fs h.1 in
+    let first : ◌≡◌ {A = ℕ × X} g e = λ i. (key i, value i) in
+    λ i. first i ∷ rest i
+
 -- a test of f of each
 pub any_map : {X Y : Type 0} (t : Y → Bool) (f : X → Y) (xs : List X) → list_any t (map f xs) ≡ list_any (λ x. t (f x)) xs
 any_map t f [] = refl
@@ -202,16 +219,6 @@ sum_map t f (x ∷ xs) = sum_by-cons t (f x) (map f xs) ∙ ap (λ n. t (f x) + 
 pub length_map : {X Y : Type 0} (f : X → Y) (xs : List X) → length (map f xs) ≡ length xs
 length_map f [] = refl
 length_map f (x ∷ xs) = ap suc (length_map f xs)
-
--- copies of pages have their bytes
-pub pages_alike : (ps qs : List (Vec ℕ Global)) → AllZip (λ p q. AllZip (λ a b. b ≡ a) p.items q.items × (vec_len q ≡ vec_len p)) ps qs → map (λ p. p.items) qs ≡ map (λ p. p.items) ps
-pages_alike [] [] h = refl
-pages_alike [] (q ∷ qs) h = absurd h
-pages_alike (p ∷ ps) [] h = absurd h
-pages_alike (p ∷ ps) (q ∷ qs) h =
-    let first = each_same p.items q.items h.0.0 in
-    let rest = pages_alike ps qs h.1 in
-    λ i. first i ∷ rest i
 
 -- an element that is set at its place is changed there
 pub changed_set : {X : Type 0} (g : X → X) (xs : List X) (i : ℕ) (x : X) → slice_get xs i ≡ Some x → with_change_at g xs i ≡ slice_set xs i (g x)

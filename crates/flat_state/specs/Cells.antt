@@ -1,5 +1,5 @@
 -- What the parts of the plain form stand for. Inside: no public clause cites this but for `extents_of`.
-use Rattle.std.specs.Prelude.{ℕ, ◌==◌, ◌+◌, ◌-◌, ◌*◌, ◌++◌, take, replicate, nat_lt, if◌then◌else◌, length, slice_set, Bool, false, List, map, option_map, Some, None, Vec}
+use Rattle.std.specs.Prelude.{ℕ, ◌==◌, ◌+◌, ◌-◌, ◌*◌, ◌++◌, take, replicate, nat_lt, if◌then◌else◌, length, slice_set, Bool, false, List, map, Some, None, Vec}
 use Rattle.flat_model.specs.vm_types.declared.prot.Prot.{Prot}
 use Rattle.flat_model.specs.vm_types.declared.call.Object.{Object}
 use Rattle.flat_model.specs.vm_types.declared.call.Object.TheVariants as object
@@ -21,7 +21,7 @@ abbrev pub pages_in_vec : Vec (Vec ℕ Global) Global → List Page
 pages_in_vec v = map (λ p. p.items) v.items
 
 abbrev pub flat_cell : CellState → Cell
-flat_cell c = record { prot = c.prot; max = c.max; kind = c.kind; object = c.object; index = c.index; own = option_map (λ p. p.items) c.own }
+flat_cell c = record { prot = c.prot; max = c.max; kind = c.kind; object = c.object; index = c.index; own = c.own }
 
 abbrev pub flat_file : FileState → File
 flat_file f = record { len = f.len; disk = f.disk; extents = f.extents.items; writable = f.writable; pages = pages_in_vec f.pages }
@@ -48,8 +48,8 @@ abbrev pub space_in : BTreeMap ℕ CellState → Space
 space_in m = finite.from_entries (map (λ e. (e.0, flat_cell e.1)) m.entries)
 
 -- The zero objects of a tree by number.
-abbrev pub zeros_in : BTreeMap ℕ (Vec (Vec ℕ Global) Global) → finite.FinMap nat_cmp (List Page)
-zeros_in m = finite.from_entries (map (λ e. (e.0, pages_in_vec e.1)) m.entries)
+abbrev pub zeros_in : BTreeMap ℕ (List Page) → finite.FinMap nat_cmp (List Page)
+zeros_in m = finite.from_entries m.entries
 
 -- The object is the zero object of this number.
 abbrev pub is_zero : ℕ → Object → Bool

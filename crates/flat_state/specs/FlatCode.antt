@@ -14,9 +14,7 @@ use Rattle.flat_model.specs.vnode_files.declared.extent.Extent.{Extent}
 use Rattle.flat_model.specs.vnode_files.contracts.extent.Extent as extent
 use Rattle.flat_model.specs.Words.{Page}
 use Rattle.flat_model.specs.Flat.{Cell, Space, File, Flat}
-
-abbrev pub page_code : Coded Page
-page_code = coded_list coded_ℕ
+use Rattle.flat_state.specs.PageCode.{page_code}
 
 abbrev pub cell_code : Coded Cell
 cell_code =

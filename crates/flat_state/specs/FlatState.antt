@@ -14,14 +14,14 @@ use Rattle.std.specs.FinMap as finite
 use Rattle.std.specs.FinSet as set
 use Rattle.flat_state.specs.declared.state.FlatParts.TheInside.{Inside}
 use Rattle.flat_model.specs.Flat.{File, Flat, Space, space_of}
-use Rattle.flat_state.specs.Cells.{flat_file, pages_in_vec, processes_in}
+use Rattle.flat_state.specs.Cells.{flat_file, processes_in}
 
 abbrev pub flat_of : Inside → Flat
 flat_of s = record {
   slots = s.slots;
   disks = finite.from_entries s.disks.entries;
   files = map flat_file s.files.items;
-  zeros = finite.from_entries (map (λ e. (e.0, pages_in_vec e.1)) s.zeros.entries);
+  zeros = finite.from_entries s.zeros.entries;
   spaces = s.spaces;
   born = processes_in s.born;
 }

@@ -11,6 +11,7 @@ ghost use Rattle.flat_model.specs.Space.{is_in_range, without_range, with_cells,
 ghost use Rattle.flat_model.specs.Mapping.{are_mapped, may_have};
 ghost use Rattle.flat_state.specs.Cells.{flat_cell, names, is_zero, without_own, with_index, cell_with_prot};
 
+use crate::page_bytes::PageBytes;
 use flat_model::{END_PAGE, Kind, Object, Prot};
 use std::alloc::{AllocError, Global};
 use std::collections::BTreeMap;
@@ -27,7 +28,7 @@ pub(crate) struct CellState {
     /// The page of the object.
     pub index: u32,
     /// The cell's own page, where it has one.
-    pub own: Option<Vec<u8>>,
+    pub own: Option<PageBytes>,
 }
 
 /// The cells of a process by page number.

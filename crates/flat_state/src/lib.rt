@@ -7,6 +7,8 @@ mod files;
 mod flat_state;
 mod growth;
 mod map_call;
+mod object_pages;
+mod page_bytes;
 mod pages;
 mod replies;
 mod spaces;

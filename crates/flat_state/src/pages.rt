@@ -5,6 +5,8 @@ ghost use Rattle.flat_model.specs.vm_types.Words.{IsWordSize, FitsWord, word_byt
 ghost use Rattle.flat_model.specs.Words.{word_put, with_bytes};
 ghost use Rattle.flat_state.specs.Cells.{pages_in_vec, zeros_in};
 
+use crate::object_pages::ObjectPages;
+use crate::page_bytes::PageBytes;
 use flat_model::word_bytes;
 use std::alloc::{AllocError, Global};
 use std::collections::BTreeMap;
@@ -20,26 +22,25 @@ pub(crate) fn set_page(pages: &mut Vec<Vec<u8>>, index: u32, page: Vec<u8>)
 
 /// Puts a page at an index of a zero object, where it has such an index. One that isn't there becomes one with no pages.
 pub(crate) fn set_zero_page(
-    zeros: &mut BTreeMap<u32, Vec<Vec<u8>>>,
+    zeros: &mut BTreeMap<u32, ObjectPages>,
     alloc: Global,
     zero: u32,
     index: u32,
-    page: Vec<u8>,
+    page: PageBytes,
 ) -> Result<(), AllocError>
     ensures ok { let old = unwrap_or (finite.get (zeros_in zeros.old) zero) [] in
-        let new = slice_set old index page.items in
+        let new = slice_set old index page in
         OnOk result (zeros_in zeros.new ≡ finite.insert (zeros_in zeros.old) zero new) }
     ensures err { OnErr result (zeros_in zeros.new ≡ zeros_in zeros.old) }
 {
     if !zeros.contains_key(&zero) {
-        zeros.insert(zero, Vec::new(alloc))?;
+        zeros.insert(zero, ObjectPages::new(alloc, 0))?;
         return Ok(());
     }
     let Some(pages) = zeros.get_mut(&zero) else {
         return Ok(());
     };
-    set_page(pages, index, page);
-    Ok(())
+    pages.set(index as u64, page)
 }
 
 /// The bytes with some put in from a place on, over those that are there.

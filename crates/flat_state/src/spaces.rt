@@ -229,7 +229,7 @@ fn cell_slots_left(spaces: &BTreeMap<u32, Cells>, slots: u32) -> Option<u32>
 {
     let mut left = slots;
     for cells in spaces.values() {
-        left = slots_left(left, cells.private_cells())?;
+        left = slots_left(left, cells.private_cells() as u64)?;
     }
     Some(left)
 }

@@ -9,6 +9,7 @@ ghost use Rattle.flat_model.specs.Opening.{flat_at_opening};
 
 use crate::cells::CellState;
 use crate::files::FileState;
+use crate::object_pages::ObjectPages;
 use crate::spaces::Spaces;
 use flat_model::{Object, Prot, Reply, Signal, word_value};
 use std::alloc::Global;
@@ -21,7 +22,7 @@ pub(crate) struct FlatParts {
     pub slots: u32,
     pub disks: BTreeMap<u32, u32>,
     pub files: Vec<FileState>,
-    pub zeros: BTreeMap<u32, Vec<Vec<u8>>>,
+    pub zeros: BTreeMap<u32, ObjectPages>,
     pub spaces: Spaces,
     pub born: BTreeMap<u32, ()>,
     pub alloc: Global,
@@ -105,7 +106,7 @@ impl FlatParts {
                 None => None,
             },
             Object::Zero(zero) => match self.zeros.get(&zero) {
-                Some(pages) => page_in(pages, index),
+                Some(pages) => pages.get(index as u64),
                 None => None,
             },
             Object::NewZero => None,

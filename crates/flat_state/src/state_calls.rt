@@ -16,6 +16,7 @@ ghost use Rattle.flat_state.specs.FlatState.{with_root, with_process, with_one_m
 
 use crate::cells::{CellState, Cells, without_own};
 use crate::files::{FileState, set_file_page};
+use crate::page_bytes::PageBytes;
 use crate::pages::{set_zero_page, with_word};
 use crate::replies::word_at;
 use crate::state::{Access, FlatParts};
@@ -143,9 +144,11 @@ impl FlatParts {
     {
         match cell.kind {
             Kind::Shared => self.set_page(cell.object, cell.index, page),
-            Kind::Private => self
-                .spaces
-                .put_cell(self.alloc, process, at, with_own(cell, page)),
+            Kind::Private => {
+                let own = PageBytes::new(self.alloc, page)?;
+                self.spaces
+                    .put_cell(self.alloc, process, at, with_own(cell, own))
+            }
         }
     }
 
@@ -156,7 +159,10 @@ impl FlatParts {
     {
         match object {
             Object::File(file) => set_file_page(&mut self.files, file, index, page),
-            Object::Zero(zero) => set_zero_page(&mut self.zeros, self.alloc, zero, index, page)?,
+            Object::Zero(zero) => {
+                let page = PageBytes::new(self.alloc, page)?;
+                set_zero_page(&mut self.zeros, self.alloc, zero, index, page)?;
+            }
             Object::NewZero => {}
         }
         Ok(())
@@ -187,8 +193,8 @@ impl FlatParts {
 }
 
 // The cell with a page of its own.
-fn with_own(cell: CellState, page: Vec<u8>) -> CellState
-    ensures { flat_cell result ≡ with_own (flat_cell cell) page.items }
+fn with_own(cell: CellState, page: PageBytes) -> CellState
+    ensures { flat_cell result ≡ with_own (flat_cell cell) page }
 {
     CellState {
         prot: cell.prot,

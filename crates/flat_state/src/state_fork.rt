@@ -28,7 +28,7 @@ impl FlatParts {
             result ≡ nat_le needed self.now.slots }
     {
         match self.slots_left() {
-            Some(left) => slots_left(left, private_cells(&self.spaces, process)).is_some(),
+            Some(left) => slots_left(left, private_cells(&self.spaces, process) as u64).is_some(),
             None => false,
         }
     }

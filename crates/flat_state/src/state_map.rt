@@ -12,12 +12,14 @@ ghost use Rattle.flat_state.specs.Mapped.{request_of, request_check, range_start
 
 use crate::cells::{CellState, Cells};
 use crate::map_call::MapCall;
+use crate::object_pages::ObjectPages;
+use crate::page_bytes::PageBytes;
 use crate::spaces::Spaces;
 use crate::state::FlatParts;
-use crate::zeros::{keep_named, object_slots_left, with_new_zeros, zero_page};
+use crate::zeros::{keep_named, object_slots_left, with_new_zeros};
 use bitflags::Flags;
 use flat_model::{Errno, Kind, Object, Place, Prot, page_of, pages_in};
-use std::alloc::{AllocError, Global};
+use std::alloc::AllocError;
 use std::collections::BTreeMap;
 
 impl FlatParts {
@@ -92,19 +94,19 @@ impl FlatParts {
     }
 
     // The cell of a mapping at its first page.
-    fn first_cell(&self, map: &MapCall, made: Option<u32>) -> Result<CellState, AllocError>
+    fn first_cell(&self, map: &MapCall, made: Option<u32>) -> CellState
         ensures cell { let first = first_cell self.now (request_of map.now) made in
-            IfOk result (λ cell. flat_cell cell ≡ first) }
-        ensures index { IfOk result (λ cell. cell.index < 2 ^ 20) }
+            flat_cell result ≡ first }
+        ensures index { result.index < 2 ^ 20 }
     {
-        Ok(CellState {
+        CellState {
             prot: map.prot,
             max: self.max_of(map.kind, map.object),
             kind: map.kind,
             object: object_with(made, map.object),
             index: page_of(map.offset),
-            own: own_for(self.alloc, map.kind, map.object)?,
-        })
+            own: own_for(map.kind, map.object),
+        }
     }
 
     // The mapping of a Map whose range is free in these spaces from this page on.
@@ -126,7 +128,7 @@ impl FlatParts {
         let mut spaces = cleared;
         let count = pages_in(map.length);
         let made = made(&spaces, map.kind, map.object)?;
-        let cell = self.first_cell(map, made)?;
+        let cell = self.first_cell(map, made);
         let mut zeros = with_new_zeros(&self.zeros, self.alloc, made, count)?;
         spaces.put_in(process, first, count, &cell)?;
         keep_named(&mut zeros, &spaces);
@@ -172,7 +174,7 @@ impl FlatParts {
 pub(crate) struct Mapping {
     pub first: u32,
     pub spaces: Spaces,
-    pub zeros: BTreeMap<u32, Vec<Vec<u8>>>,
+    pub zeros: BTreeMap<u32, ObjectPages>,
 }
 
 impl Mapping {
@@ -218,14 +220,14 @@ fn object_with(made: Option<u32>, object: Object) -> Object
 }
 
 // The own page of the cells of a new mapping: of private new zero memory a page of zeros, else none.
-fn own_for(alloc: Global, kind: Kind, object: Object) -> Result<Option<Vec<u8>>, AllocError>
-    ensures { IfOk result (λ own. option_map (λ p. p.items) own ≡ own_for kind object) }
+fn own_for(kind: Kind, object: Object) -> Option<PageBytes>
+    ensures { result ≡ own_for kind object }
 {
     match kind {
-        Kind::Shared => Ok(None),
+        Kind::Shared => None,
         Kind::Private => match object {
-            Object::NewZero => Ok(Some(zero_page(alloc)?)),
-            Object::File(_) | Object::Zero(_) => Ok(None),
+            Object::NewZero => Some(PageBytes::zeros()),
+            Object::File(_) | Object::Zero(_) => None,
         },
     }
 }

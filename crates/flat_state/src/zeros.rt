@@ -8,12 +8,13 @@ ghost use Rattle.flat_state.specs.Cells.{zeros_in};
 ghost use Rattle.flat_state.specs.Mapped.{with_new_zeros, slots_left};
 ghost use Rattle.flat_model.specs.Spaces.{names_zero};
 
+use crate::object_pages::ObjectPages;
 use crate::spaces::Spaces;
 use std::alloc::{AllocError, Global};
 use std::collections::BTreeMap;
 
 /// The zero objects that no cell names go. Takes no memory.
-pub(crate) fn keep_named(zeros: &mut BTreeMap<u32, Vec<Vec<u8>>>, spaces: &Spaces)
+pub(crate) fn keep_named(zeros: &mut BTreeMap<u32, ObjectPages>, spaces: &Spaces)
     ensures { let kept = finite.retain_keys (zeros_in zeros.old) (names_zero spaces.now) in
         zeros_in zeros.new ≡ kept }
 {
@@ -42,8 +43,8 @@ pub(crate) fn zero_pages(alloc: Global, count: u64) -> Result<Vec<Vec<u8>>, Allo
 
 /// The same zero objects once more.
 pub(crate) fn copied(
-    zeros: &BTreeMap<u32, Vec<Vec<u8>>>,
-) -> Result<BTreeMap<u32, Vec<Vec<u8>>>, AllocError>
+    zeros: &BTreeMap<u32, ObjectPages>,
+) -> Result<BTreeMap<u32, ObjectPages>, AllocError>
     ensures { IfOk result (λ new. zeros_in new ≡ zeros_in zeros.now) }
 {
     let new = zeros.clone()?;
@@ -52,11 +53,11 @@ pub(crate) fn copied(
 
 /// The zero objects and the one of so many pages that was made, if one was.
 pub(crate) fn with_new_zeros(
-    zeros: &BTreeMap<u32, Vec<Vec<u8>>>,
+    zeros: &BTreeMap<u32, ObjectPages>,
     alloc: Global,
     made: Option<u32>,
     count: u32,
-) -> Result<BTreeMap<u32, Vec<Vec<u8>>>, AllocError>
+) -> Result<BTreeMap<u32, ObjectPages>, AllocError>
     ensures { let all = with_new_zeros (zeros_in zeros.now) made count in
         IfOk result (λ new. zeros_in new ≡ all) }
 {
@@ -64,15 +65,15 @@ pub(crate) fn with_new_zeros(
     let Some(zero) = made else {
         return Ok(new);
     };
-    new.insert(zero, zero_pages(alloc, count as u64)?)?;
+    new.insert(zero, ObjectPages::new(alloc, count as u64))?;
     Ok(new)
 }
 
 /// So many slots without some, where there are enough.
-pub(crate) fn slots_left(slots: u32, count: usize) -> Option<u32>
+pub(crate) fn slots_left(slots: u32, count: u64) -> Option<u32>
     ensures { result ≡ slots_left slots count }
 {
-    if count <= slots as usize {
+    if count <= slots as u64 {
         Some(slots - count as u32)
     } else {
         None
@@ -80,8 +81,8 @@ pub(crate) fn slots_left(slots: u32, count: usize) -> Option<u32>
 }
 
 /// So many slots without one for each page of the zero objects, where there are enough.
-pub(crate) fn object_slots_left(zeros: &BTreeMap<u32, Vec<Vec<u8>>>, slots: u32) -> Option<u32>
-    ensures left { result ≡ slots_left slots (sum_by (λ v. length v.items) (values zeros.now)) }
+pub(crate) fn object_slots_left(zeros: &BTreeMap<u32, ObjectPages>, slots: u32) -> Option<u32>
+    ensures left { result ≡ slots_left slots (sum_by length (values zeros.now)) }
     ensures ordered { IsOrdered nat_cmp zeros.now }
 {
     let mut left = slots;
@@ -94,7 +95,7 @@ pub(crate) fn object_slots_left(zeros: &BTreeMap<u32, Vec<Vec<u8>>>, slots: u32)
 /// So many slots without one for each page of the zero objects that some cell names, where there
 /// are enough. Looks at each cell for each zero object.
 pub(crate) fn named_slots_left(
-    zeros: &BTreeMap<u32, Vec<Vec<u8>>>,
+    zeros: &BTreeMap<u32, ObjectPages>,
     spaces: &Spaces,
     slots: u32,
 ) -> Option<u32>

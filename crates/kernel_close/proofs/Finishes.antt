@@ -1,7 +1,7 @@
 -- What is left of a world: the disks that come out hold the files.
 use Rattle.seg_ops.proofs.FillSteps.{some-of as some-blocks}
 use Rattle.seg_ops.proofs.Fills.{clip-zeros}
-use Rattle.std.proofs.Common.{◌≡◌, ℕ, zero, suc, ◌<◌, ◌≤◌, Bool, true, false, cond, List, [], ◌∷◌, length, Option, Some, None, Result, Ok, Err, refl, sym, ap, ◌∙◌, inl, inr, subst, arith}
+use Rattle.std.proofs.Common.{◌≡◌, ◌⊎◌, ℕ, zero, suc, ◌<◌, ◌≤◌, Bool, true, false, cond, List, [], ◌∷◌, length, Option, Some, None, Result, Ok, Err, refl, sym, ap, ◌∙◌, inl, inr, subst, arith}
 use Rattle.std.specs.Prelude.{slice_index, slice_index_or, IsSome, IsTrue, IfSome, IfNone, IfErr, OnOk, MatchResult}
 use Rattle.std.specs.Result.{IsOk}
 use Rattle.std.specs.FinMap as finite
@@ -48,6 +48,11 @@ pub home-of : (b : BaySeen) → IsStill b → (b ≡ missing → ⊥) → b ≡ 
 home-of missing s there = absurd (there refl)
 home-of (home d) s there = refl
 home-of (out seat) s there = absurd s
+
+pub missing-or-home : (b : BaySeen) → IsStill b → (b ≡ missing) ⊎ (b ≡ home (disk_in b))
+missing-or-home missing s = inl refl
+missing-or-home (home d) s = inr refl
+missing-or-home (out seat) s = absurd s
 
 -- and a page that is home can be pushed
 pub ready-to-push : (w : World) (spaces : Spaces) (name : PageName) → MemoryFits (memory_of w spaces) → NotesFit w no_notes → IsDirtyPage w name → Waits w.store name (world_table w name).disk None

@@ -1,15 +1,16 @@
 -- Marks that are true of the disks which a kernel leaves as it is closed.
-use Rattle.std.proofs.Common.{◌≡◌, ◌≢◌, ◌⊎◌, ℕ, ◌<◌, ◌≤◌, true, false, List, [], length, map, Option, Some, None, refl, sym, ap, ◌∙◌, inl, inr, subst, arith}
+use Rattle.std.proofs.Common.{◌≡◌, ◌≢◌, ◌⊎◌, ℕ, zero, suc, ◌<◌, ◌≤◌, ◌+◌, true, false, List, [], ◌∷◌, length, min, map, Option, Some, None, refl, sym, ap, ◌∙◌, inl, inr, subst, arith}
 use Rattle.std.specs.Prelude.{slice_get, slice_index, slice_index_or, IfSome, IsSomeAnd, option_map, option_and_then}
 use Rattle.std.specs.Option.{option_map_or}
 use Rattle.std.proofs.lemmas.Bool.{cases_eq, cases_lt}
-use Rattle.std.proofs.lemmas.List.{length-map}
+use Rattle.std.specs.List.{Contains}
+use Rattle.std.proofs.lemmas.List.{append-nil, length-map}
 use Rattle.std.proofs.lemmas.Option.{none-some, slice_get-map, slice_get_within}
 use Rattle.seg_ops.specs.block_device.DiskSeen.{DiskSeen}
 use Rattle.seg_ops.specs.block_device.Counts.{HasRisen}
 use Rattle.seg_ops.specs.block_device.declared.disk_fault.DiskFault.{DiskFault}
 use Rattle.seg_ops.specs.page_hash.declared.PageName.{PageName}
-use Rattle.seg_ops.specs.page_store.Bays.{BaySeen, bay_at, block_of, home, disk_in}
+use Rattle.seg_ops.specs.page_store.Bays.{BaySeen, bay_at, bay_of, block_of, disk_in, home, missing}
 use Rattle.seg_ops.specs.page_store.Bytes.{clip}
 use Rattle.seg_ops.specs.page_store.Layout.{FileBlocks, KeepsPage}
 use Rattle.seg_ops.specs.page_store.Notes.{no_notes}
@@ -29,10 +30,13 @@ use Rattle.mark_laws.specs.disk_marks.declared.marks.MarkRow.{MarkRow}
 use Rattle.mark_laws.specs.disk_marks.Marks.{MarksSeen, HasRow, mark_row, unused_row}
 use Rattle.mark_laws.specs.disk_marks.Changes.{row_spoiled}
 use Rattle.mark_laws.specs.MarksFit.{BlockFits, FailureFits, MarksFit, OfBlock}
-use Rattle.mark_laws.specs.Pages.{HasPage, after_first, bytes_there, disk_place, page_there}
+use Rattle.mark_laws.specs.AccountLaws.{AccountsFor, HasItsPage, IsUnsure}
+use Rattle.mark_laws.specs.Pages.{ArePageOf, HasPage, after_first, bytes_there, disk_place, page_there}
 use Rattle.mark_laws.specs.Syncs.{HasSynced, ReachesDisk, entries_in}
+use Rattle.mark_laws.proofs.Along.{before-some}
 use Rattle.mark_laws.proofs.Words.{all-entries, held-inj, unsure-inj}
 use Rattle.seg_ops.specs.vm_world.DiskPlaces.{faults_in}
+use Rattle.seg_ops.specs.vm_world.Events.{moment_of}
 use Rattle.seg_ops.specs.vm_world.FlatMemory.{flat_memory}
 use Rattle.seg_ops.specs.vm_world.HistoryFits.{HistoryFits}
 use Rattle.seg_ops.specs.vm_world.Opening.{no_seats}
@@ -45,9 +49,10 @@ use Rattle.seg_ops.proofs.vm_world.PageNames.{file-apart, file-there, index-of}
 use Rattle.seg_ops.proofs.vm_world.Places.{end-now, kept-place, kept-there, page-now, places-apart}
 use Rattle.kernel_close.specs.Closing.{AreDisksOf, IsSpoiled, HasPageAndZeros, IsWrittenOrKept, WriteAllPages}
 use Rattle.kernel_close.specs.Finish.{IsFilePage, IsLastFault, IsPageBlock, KeepDisks, KeepsOtherBlocks, bytes_of_page, disk_at, disks_of}
-use Rattle.kernel_close.specs.LeftMarks.{IsRowLeft, LeavesMarks, contents_by_number, disk_by_number, faults_by_number}
+use Rattle.kernel_close.specs.LeftMarks.{IsRowLeft, LeavesMarks, contents_by_number, disk_by_number, faults_by_number, moment_left}
 use Rattle.kernel_close.proofs.Fills.{kept-page, one-disk}
-use Rattle.kernel_close.proofs.Finishes.{are-disks, disk-in-order, home-of, still}
+use Rattle.kernel_close.proofs.Finishes.{are-disks, disk-in-order, home-of, missing-or-home, still}
+use Rattle.kernel_close.proofs.PageBlocks.{paged-or-not}
 use Rattle.kernel_close.proofs.MarkTables.{AreFound, found-both, found-some, marks_by_block, row-changed, row-either, row-kept, same-or-not}
 
 -- The row of a block that a push or zeros came to.
@@ -416,6 +421,164 @@ module _ (opening : Flat) (s : KernelState) (fit : StateFits opening s no_seats)
     | inr none ↦ let same = ap (λ (row : MarkRow). entries_in row.mark) (none.1 ∙ sym none.0) in omega (arith, same)
   ]
 
+  -- THE DISKS AS THEY WERE, by their numbers
+  bay-missing : (number : ℕ) → number < 8 → disk_by_number O number ≡ None → bay_at w.store.bays number ≡ missing
+  bay-missing number low none = elim (missing-or-home (bay_at w.store.bays number) (still w fit.notes number)) [
+    | inl gone ↦ gone
+    | inr here ↦
+        let at = fit.memory.frames.sound.order.all number low (λ gone. let z : home (disk_in (bay_at w.store.bays number)) ≡ missing = sym here ∙ gone in cc) in
+        let long = length-map {B = ℕ × DiskSeen} w.store.order (λ (n : ℕ). (n, disk_in (bay_at w.store.bays n))) in
+        let lt = at.1 in
+        absurd (found-some O at.0 number (omega (arith, lt, long)) (ap (λ (d : ℕ × DiskSeen). d.0) (disk-in-order w.store.bays w.store.order at.0 at.1) ∙ at.2) none)
+  ]
+
+  bay-listed : (number : ℕ) → number < 8 → bay_at w.store.bays number ≡ bay_of (disk_by_number O number)
+  bay-listed number low = elim (found number) [
+    | inl both ↦ ap (bay_at w.store.bays) (sym both.number) ∙ home-listed both.place both.within ∙ sym (ap bay_of both.old)
+    | inr none ↦ bay-missing number low none.0 ∙ sym (ap bay_of none.0)
+  ]
+
+  block-was : (disk block : ℕ) → disk < 8 → block_of (content_of w.store no_notes disk) block ≡ had disk block
+  block-was disk block low = ap (λ (b : BaySeen). block_of (content_in_bay b no_notes) block) (bay-listed disk low) ∙ by_disk (disk_by_number O disk)
+    where
+      by_disk : (o : Option DiskSeen) → block_of (content_in_bay (bay_of o) no_notes) block ≡ told-in block o
+      by_disk None = refl
+      by_disk (Some d) = refl
+
+  count-was : (disk : ℕ) → disk < 8 → faults_in (bay_at w.store.bays disk) no_notes ≡ faults_by_number O disk
+  count-was disk low = ap (λ (b : BaySeen). faults_in b no_notes) (bay-listed disk low) ∙ by_disk (disk_by_number O disk)
+    where
+      by_disk : (o : Option DiskSeen) → faults_in (bay_of o) no_notes ≡ option_map (λ (d : DiskSeen). d.faults) o
+      by_disk None = refl
+      by_disk (Some d) = refl
+
+  -- its counts: no fewer
+  counts-left : (disk before : ℕ) → disk < 8 → faults_in (bay_at w.store.bays disk) no_notes ≡ Some before → (after : ℕ) × (faults_by_number N disk ≡ Some after) × (before ≤ after)
+  counts-left disk before low was = elim (found disk) [
+    | inl both ↦
+        let same = some-inj (disk_at O both.place).1.faults before (sym (ap (option_map (λ (d : DiskSeen). d.faults)) both.old) ∙ sym (count-was disk low) ∙ was) in
+        let more = (keeps.each both.place both.within).faults in
+        ((disk_at N both.place).1.faults, ap (option_map (λ (d : DiskSeen). d.faults)) both.new, omega (arith, same, more))
+    | inr none ↦ absurd (let z : ◌≡◌ {A = Option ℕ} None (Some before) = sym (ap (option_map (λ (d : DiskSeen). d.faults)) none.0) ∙ sym (count-was disk low) ∙ was in cc)
+  ]
+
+  -- THE BLOCKS OF A DISK of which a transfer failed: one, where it is that of a page
+  record FailedOn (disk : ℕ) : Type 0 where
+    blocks : List ℕ
+    few : (before after : ℕ) → disk < 8 → faults_in (bay_at w.store.bays disk) no_notes ≡ Some before → faults_by_number N disk ≡ Some after → min (length blocks + before) top_count ≤ after
+    paged : (block : ℕ) → Contains blocks block → IsPageBlock w.files disk block
+    there : (block : ℕ) → IsThere fault written.0 disk block → IsPageBlock w.files disk block → Contains blocks block
+
+  none-failed : (disk : ℕ) → ((block : ℕ) → IsThere fault written.0 disk block → IsPageBlock w.files disk block → ⊥) → FailedOn disk
+  none-failed disk none = record {
+    blocks = [];
+    few = λ before after low was is. let c = counts-left disk before low was in let same = some-inj c.0 after (sym c.1 ∙ is) in let le = c.2 in omega (arith, same, le);
+    paged = λ block c. absurd (let lt = c.1 in omega (arith, lt));
+    there = λ block at page. absurd (none block at page);
+  }
+
+  one-failed : (f : DiskFault) (disk spoiled : ℕ) → IsLastFault O N f → f.disk ≡ disk → (before after : ℕ) → disk < 8 → faults_in (bay_at w.store.bays disk) no_notes ≡ Some before → faults_by_number N disk ≡ Some after
+      → min (length (spoiled ∷ []) + before) top_count ≤ after
+  one-failed f disk spoiled last on before after low was is = elim (found disk) [
+    | inl both ↦
+        let listed : (disk_at O last.0).0 ≡ disk = sym last.2.disk ∙ on in
+        let one : both.place ≡ last.0 = one-disk w.files O both.place last.0 are both.within last.1 (both.number ∙ sym listed) in
+        let old = some-inj (disk_at O both.place).1.faults before (sym (ap (option_map (λ (d : DiskSeen). d.faults)) both.old) ∙ sym (count-was disk low) ∙ was) in
+        let new = some-inj (disk_at N both.place).1.faults after (sym (ap (option_map (λ (d : DiskSeen). d.faults)) both.new) ∙ is) in
+        let first : (disk_at O last.0).1.faults ≡ (disk_at O both.place).1.faults = ap (λ (i : ℕ). (disk_at O i).1.faults) (sym one) in
+        let ends : f.after ≡ (disk_at N both.place).1.faults = last.2.after ∙ ap (λ (i : ℕ). (disk_at N i).1.faults) (sym one) in
+        let since = last.2.since in
+        let risen = f.risen in
+        omega (arith, old, new, first, ends, since, risen)
+    | inr none ↦ absurd (let z : ◌≡◌ {A = Option ℕ} None (Some after) = sym (ap (option_map (λ (d : DiskSeen). d.faults)) none.1) ∙ is in cc)
+  ]
+
+  there-fault : (fault : Option DiskFault) (spoiled disk block : ℕ) → IsThere fault spoiled disk block → (f : DiskFault) × (fault ≡ Some f) × (f.disk ≡ disk) × (spoiled ≡ block)
+  there-fault None spoiled disk block none = absurd none
+  there-fault (Some f) spoiled disk block there = (f, refl, there.0, there.1)
+
+  failed-on : (disk : ℕ) → FailedOn disk
+  failed-on disk = elim (there-or-not fault written.0 disk written.0) [
+    | inr far ↦ none-failed disk (λ block there page. let t = there-fault fault written.0 disk block there in far (subst (IsThere fault written.0 disk) (sym t.3) there))
+    | inl there ↦ elim (paged-or-not w.files disk written.0) [
+      | inr out ↦ none-failed disk (λ block at page. let t = there-fault fault written.0 disk block at in out (subst (IsPageBlock w.files disk) (sym t.3) page))
+      | inl page ↦
+          let t = there-fault fault written.0 disk written.0 there in
+          record {
+            blocks = written.0 ∷ [];
+            few = one-failed t.0 disk written.0 (subst (λ (o : Option DiskFault). IfSome o (IsLastFault O N)) t.1 last) t.2;
+            paged = λ block c. subst (IsPageBlock w.files disk) (only block c.0 c.1 c.2) page;
+            there = λ block at page. let is = there-fault fault written.0 disk block at in (0, omega arith, is.3);
+          }
+    ]
+  ]
+    where
+      only : (block k : ℕ) → k < 1 → slice_index_or (written.0 ∷ []) k block ≡ block → written.0 ≡ block
+      only block zero lt same = same
+      only block (suc k) lt same = absurd (omega (arith, lt))
+
+  -- A BLOCK THAT CHANGED, and isn't that of the transfer which failed, has its page
+  changed-page : (disk block : ℕ) (p : IsPageBlock w.files disk block) → has disk block ≢ had disk block → ¬ IsThere fault written.0 disk block → ArePageOf opening H p.name (has disk block)
+  changed-page disk block p changed far = elim (found disk) [
+    | inl both ↦ by_content both (disk_at O both.place).1.content (disk_at N both.place).1.content refl refl (keeps.each both.place both.within).blocks
+    | inr none ↦ absurd (listed p.name disk block (page-place disk block p) none.0)
+  ]
+    where
+      by_content : (both : AreFound O N disk) (a b : Option (List (List ℕ))) → (disk_at O both.place).1.content ≡ a → (disk_at N both.place).1.content ≡ b → KeepsOtherBlocks w.files (disk_at O both.place).0 a b
+          → ArePageOf opening H p.name (has disk block)
+      by_content both None None is_old is_new k = absurd (changed (ap (told-in block) both.new ∙ ap (λ (o : Option (List (List ℕ))). block_of o block) (is_new ∙ sym is_old) ∙ sym (ap (told-in block) both.old)))
+      by_content both None (Some new) is_old is_new k = absurd k
+      by_content both (Some old) None is_old is_new k = absurd k
+      by_content both (Some old) (Some new) is_old is_new k =
+          let at = page-place disk block p in
+          subst (ArePageOf opening H p.name) (sym (has-new p.name disk block at both old new is_old is_new)) (record {
+            entries = length H;
+            made = omega arith;
+            inside = subst (λ (F : Flat). 0 < bytes_there F p.name) (sym (all-entries opening H))
+                (subst (λ (n : ℕ). 0 < n) (sym (ends p.name disk block at)) (before-some (vnode_at w.files p.name.object).info.length p.name.page p.page.below));
+            same = ((changed-held p.name disk block at both old new is_old is_new changed far).held (length H) refl).rest refl;
+          })
+
+  -- EACH BLOCK IS ACCOUNTED FOR
+  each-left : (disk block : ℕ) → disk < 8 → ¬ Contains (failed-on disk).blocks block
+      → (has disk block ≡ block_of (content_of w.store no_notes disk) block) ⊎ HasItsPage opening (moment_left s N left-marks) disk block
+  each-left disk block low none = elim (same-or-not (has disk block) (had disk block)) [
+    | inl same ↦ inl (same ∙ sym (block-was disk block low))
+    | inr changed ↦ elim (paged-or-not w.files disk block) [
+      | inr out ↦ absurd (changed (unpaged-same disk block out))
+      | inl p ↦ elim (there-or-not fault written.0 disk block) [
+        | inl there ↦ absurd (none ((failed-on disk).there block there p))
+        | inr far ↦ inr (p.name, page-place disk block p, changed-page disk block p changed far)
+      ]
+    ]
+  ]
+
+  spoiled-there : (fault : Option DiskFault) (spoiled disk block : ℕ) (now : MarkRow) → IsRowSpoiled (length H) fault spoiled disk block now → IsThere fault spoiled disk block
+  spoiled-there None spoiled disk block now none = none
+  spoiled-there (Some f) spoiled disk block now is = (is.0, is.1)
+
+  unsure-left : (disk block : ℕ) → IsUnsure left-marks disk block → Contains (failed-on disk).blocks block ⊎ IsUnsure s.marks disk block
+  unsure-left disk block is = elim (either-left disk block) [
+    | inl (inl stays) ↦ inr (is.0, is.1, is.2, ap (λ (row : MarkRow). row.mark) (sym stays.1) ∙ is.3)
+    | inl (inr (inl held)) ↦ absurd (let z : Held (length H) ≡ Unsure is.0 is.1 is.2 = sym (ap (λ (row : MarkRow). row.mark) held.2) ∙ is.3 in cc)
+    | inl (inr (inr spoiled)) ↦ elim (paged-or-not w.files disk block) [
+      | inr out ↦ absurd (spoiled.0 (unpaged-same disk block out))
+      | inl p ↦ inl ((failed-on disk).there block (spoiled-there fault written.0 disk block (row-now disk block) spoiled.1) p)
+    ]
+    | inr none ↦ absurd (let z : Unsure is.0 is.1 is.2 ≡ Blank 0 = sym is.3 ∙ ap (λ (row : MarkRow). row.mark) none.1 in cc)
+  ]
+
+  left-accounts : AccountsFor opening (moment_of s no_notes) (moment_left s N left-marks)
+  left-accounts = record {
+    grown = ([], sym (append-nil H));
+    counts = counts-left;
+    failed = λ disk. (failed-on disk).blocks;
+    few = λ disk. (failed-on disk).few;
+    kept = λ disk block c. let p = (failed-on disk).paged block c in (p.name, page-place disk block p);
+    each = each-left;
+    unsure = unsure-left;
+  }
+
   -- MARKS ARE LEFT.
   pub marks-left : LeavesMarks opening s N fault
   marks-left = record {
@@ -430,6 +593,7 @@ module _ (opening : Flat) (s : KernelState) (fit : StateFits opening s no_seats)
       blanks = λ name disk block j at is. marks.blanks name disk block j at (page-blank name disk block j at is);
       places = λ seat note out. absurd (none-some note out);
       sent = λ seat note out. absurd (none-some note out);
+      origin = λ seat note out. absurd (none-some note out);
       out = marks.out;
       inside = marks.inside;
       synced = page-synced;
@@ -439,4 +603,5 @@ module _ (opening : Flat) (s : KernelState) (fit : StateFits opening s no_seats)
     spoiled = written.0;
     rows = left-rows;
     later = left-later;
+    accounts = left-accounts;
   }

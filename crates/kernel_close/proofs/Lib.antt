@@ -4,4 +4,5 @@ pub mod Pushes
 pub mod OnePush
 pub mod Finishes
 pub mod MarkTables
+pub mod PageBlocks
 pub mod LeftMarks

@@ -10,6 +10,8 @@ use Rattle.mark_laws.specs.disk_marks.Marks.{MarksSeen, mark_row}
 use Rattle.mark_laws.specs.disk_marks.Changes.{row_spoiled}
 use Rattle.mark_laws.specs.MarksFit.{DiskContents, MarksFit, FailuresFit}
 use Rattle.mark_laws.specs.Syncs.{entries_in}
+use Rattle.mark_laws.specs.AccountLaws.{Moment, AccountsFor}
+use Rattle.seg_ops.specs.vm_world.Events.{moment_of}
 use Rattle.seg_ops.specs.vm_world.State.{KernelState}
 
 -- The disk of a number among these; none where there is no such disk.
@@ -32,7 +34,13 @@ IsRowLeft entries fault spoiled disk block was now =
     ⊎ (now ≡ record { mark = Held entries; pushed = true })
     ⊎ IsSomeAnd fault (λ f. (f.disk ≡ disk) × (spoiled ≡ block) × (now ≡ row_spoiled entries f.before f.after))
 
+-- What is seen then: the history, these disks and the marks.
+abbrev pub moment_left : KernelState → List (ℕ × DiskSeen) → MarksSeen → Moment
+moment_left s disks marks =
+    record { history = s.history; contents = contents_by_number disks; faults = faults_by_number disks; marks = marks }
+
 -- MARKS ARE LEFT that are true of the disks, and whose counts are of failures; no transfer is out. Each row is left so, and its mark is no older than the state's.
+-- Each block of a disk of files is accounted for from the state on.
 pub record LeavesMarks (opening : Flat) (s : KernelState) (disks : List (ℕ × DiskSeen)) (fault : Option DiskFault) : Type 0 where
   pub marks : MarksSeen
   pub fits : MarksFit opening s.history (contents_by_number disks) no_notes marks
@@ -40,3 +48,4 @@ pub record LeavesMarks (opening : Flat) (s : KernelState) (disks : List (ℕ × 
   pub spoiled : ℕ
   pub rows : (disk block : ℕ) → IsRowLeft (length s.history) fault spoiled disk block (mark_row s.marks disk block) (mark_row marks disk block)
   pub later : (disk block : ℕ) → entries_in (mark_row s.marks disk block).mark ≤ entries_in (mark_row marks disk block).mark
+  pub accounts : AccountsFor opening (moment_of s no_notes) (moment_left s disks marks)

@@ -1,5 +1,5 @@
 -- Each step keeps the rule of the lock.
-use Rattle.std.proofs.Common.{◌≡◌, ◌≢◌, ℕ, ◌+◌, ◌<◌, true, false, eqb, List, [], ◌∷◌, ◌++◌, length, get_or, set, refl, ap, sym, ◌∙◌, subst, arith, length-set}
+use Rattle.std.proofs.Common.{◌≡◌, ◌≢◌, ℕ, ◌+◌, ◌<◌, ◌≤◌, true, false, eqb, List, [], ◌∷◌, ◌++◌, length, get_or, set, refl, ap, sym, ◌∙◌, subst, arith, length-set}
 use Rattle.std.proofs.Common.{get_or-set_other, get_or-set_same, Option, Some, None}
 use Rattle.std.specs.List.{All}
 use mathlib.Core.Logic.{dite}
@@ -15,7 +15,7 @@ use Rattle.std.proofs.Common.{eq-eqb, ne_eqb}
 use Rattle.kernel_lock.specs.declared.board.View.{View}
 use Rattle.kernel_lock.specs.declared.board.SeatPart.{SeatPart}
 use Rattle.kernel_lock.specs.Laws.{Keeps, Grows}
-use Rattle.kernel_lock.specs.Rule.{Lock, Knows, HasPart, Each, view_inside, with_refused_try, view_made_known, view_outside, known_of, TakesTurn, MakesKnown, ReleasesTurn}
+use Rattle.kernel_lock.specs.Rule.{Lock, Knows, HasPart, Each, view_inside, with_refused_try, view_made_known, view_outside, known_of, TakesTurn, MakesKnown, ReleasesTurn, RingsBell, view_rung}
 use Rattle.kernel_lock.specs.Seats.{IsEntered, entries_by}
 use Rattle.kernel_lock.proofs.Begun.{prefix_self, prefix_more, each_imp, unchanged_by, set_at, each_set, set_only, at_below}
 
@@ -37,14 +37,14 @@ module _ {S E N : Type 0} (seat_of : E → ℕ) (history : S → List E) (fits :
       → Rule (stepped s 0 (v.number + 1) id [] (view_inside v r.core) (takes 0 (Some r.core)))
   taken s r id v at seated free =
       let k = r.each id v at in
-      let two = r.two in
-      let now : get_or (set s.words 0 (v.number + 1)) 0 0 ≡ v.number + 1 = get_or-set_same s.words 0 (v.number + 1) 0 (omega (arith, two)) in
+      let five = r.five in
+      let now : get_or (set s.words 0 (v.number + 1)) 0 0 ≡ v.number + 1 = get_or-set_same s.words 0 (v.number + 1) 0 (omega (arith, five)) in
       record {
         core = r.core;
         notes = r.notes;
         owner = r.owner;
         holder = id;
-        two = length-set s.words 0 (v.number + 1) ∙ two;
+        five = length-set s.words 0 (v.number + 1) ∙ five;
         one = length-set s.homes 0 none ∙ r.one;
         fitting = r.fitting;
         sized = r.sized;
@@ -93,7 +93,7 @@ module _ {S E N : Type 0} (seat_of : E → ℕ) (history : S → List E) (fits :
         notes = r.notes;
         owner = r.owner;
         holder = r.holder;
-        two = r.two;
+        five = r.five;
         one = r.one;
         fitting = r.fitting;
         sized = r.sized;
@@ -164,7 +164,7 @@ module _ {S E N : Type 0} (seat_of : E → ℕ) (history : S → List E) (fits :
       let same : move.0 ≡ r.core = cc (move.1, within.3) in
       let went : moves v.number r.core v.note t m = subst (λ b. moves v.number b v.note t m) same move.2 in
       let grown = more opening r.core t r.notes v.number v.note m r.fitting mine.0 went in
-      let two = r.two in
+      let five = r.five in
       let w : V2 = view_made_known seat_of history v t m in
       let first : get_or (set s.words 1 n) 0 0 ≡ get_or s.words 0 0 = get_or-set_other s.words 1 0 n 0 (λ e. omega (arith, e)) in
       let begin : (xs : List E) → IsPrefix xs (history r.core) → IsPrefix xs (history t) = λ xs p. subst (IsPrefix xs) (sym grown.1) (prefix_more xs (history r.core) grown.0 p) in
@@ -174,11 +174,11 @@ module _ {S E N : Type 0} (seat_of : E → ℕ) (history : S → List E) (fits :
         notes = set r.notes v.number m;
         owner = r.owner;
         holder = r.holder;
-        two = length-set s.words 1 n ∙ two;
+        five = length-set s.words 1 n ∙ five;
         one = r.one;
         fitting = law opening r.core t r.notes v.number v.note m r.fitting mine.0 went;
         sized = length-set r.notes v.number m ∙ r.sized;
-        counted = get_or-set_same s.words 1 n 0 (omega (arith, two)) ∙ long;
+        counted = get_or-set_same s.words 1 n 0 (omega (arith, five)) ∙ long;
         home = λ z. let busy = within.1 in absurd (omega (arith, z, first, busy));
         held = λ _. (w, subst (λ h. get_elem? (set s.views id w) h ≡ some w) (sym within.2) (set_at s.views id v w at), inside);
         each = subst (λ z. (j : ℕ) (u : V2) → get_elem? (set s.views id w) j ≡ some u → Knows seat_of history opening seats t (set r.notes v.number m) r.owner z r.holder j u) (sym first)
@@ -229,15 +229,15 @@ module _ {S E N : Type 0} (seat_of : E → ℕ) (history : S → List E) (fits :
   gave s r id v t at inside kept =
       let k = r.each id v at in
       let within = k.within inside in
-      let two = r.two in
+      let five = r.five in
       let same : t ≡ r.core = cc (kept, within.3) in
-      let now : get_or (set s.words 0 0) 0 0 ≡ 0 = get_or-set_same s.words 0 0 0 (omega (arith, two)) in
+      let now : get_or (set s.words 0 0) 0 0 ≡ 0 = get_or-set_same s.words 0 0 0 (omega (arith, five)) in
       record {
         core = r.core;
         notes = r.notes;
         owner = r.owner;
         holder = r.holder;
-        two = length-set s.words 0 0 ∙ two;
+        five = length-set s.words 0 0 ∙ five;
         one = length-set s.homes 0 (some (Some t)) ∙ r.one;
         fitting = r.fitting;
         sized = r.sized;
@@ -262,6 +262,38 @@ module _ {S E N : Type 0} (seat_of : E → ℕ) (history : S → List E) (fits :
       → Allows (Lock seat_of history fits opening seats) slots id (v, cs) 0 (λ _. 0) (λ _. ReleasesTurn (step slots 0 0 0 none) (v, cs) 0)
   gives_back slots id v cs t inside kept has = subst (λ c. Allows (Lock seat_of history fits opening seats) slots id (v, c) 0 (λ _. 0) (λ _. ReleasesTurn (step slots 0 0 0 none) (v, c) 0)) (sym has)
       (λ s r wide at bound. (view_outside v, gives, tt, gave s r id v t at inside kept, refl))
+
+  -- a seat rings a bell, whose number is in none of the rule's words
+  rung : (s : State (Option S) V3) (r : Lock seat_of history fits opening seats s) (id : ℕ) (v : V3) (word n : ℕ) → get_elem? s.views id ≡ some v → 2 ≤ word
+      → Lock seat_of history fits opening seats (stepped s word n id [] (view_rung word v) keeps)
+  rung s r id v word n at high =
+      let k = r.each id v at in
+      let w : V3 = view_rung word v in
+      let first : get_or (set s.words word n) 0 0 ≡ get_or s.words 0 0 = get_or-set_other s.words word 0 n 0 (λ e. omega (arith, e, high)) in
+      record {
+        core = r.core;
+        notes = r.notes;
+        owner = r.owner;
+        holder = r.holder;
+        five = length-set s.words word n ∙ r.five;
+        one = r.one;
+        fitting = r.fitting;
+        sized = r.sized;
+        counted = get_or-set_other s.words word 1 n 0 (λ e. omega (arith, e, high)) ∙ r.counted;
+        home = λ z. r.home (sym first ∙ z);
+        held = λ busy. let (u, is, inside) = r.held (λ z. busy (first ∙ z)) in dite (ℕ_discrete r.holder id)
+            (λ e. let same : v ≡ u = some-injective v u (sym at ∙ (sym (ap (get_elem? s.views) e) ∙ is)) in
+            (w, subst (λ h. get_elem? (set s.views id w) h ≡ some w) (sym e) (set_at s.views id v w at), cc (same, inside)))
+            (λ ne. (u, set_else s.views id r.holder w ne ∙ is, inside));
+        each = subst (λ z. (j : ℕ) (u : V3) → get_elem? (set s.views id w) j ≡ some u → Knows seat_of history opening seats r.core r.notes r.owner z r.holder j u) (sym first)
+            (each_set (Knows seat_of history opening seats r.core r.notes r.owner (get_or s.words 0 0) r.holder) s.views id w
+            record { opened = k.opened; begun = k.begun; begun_olds = k.begun_olds; mine = k.mine; told = k.told; theirs = k.theirs; fresh = k.fresh; within = k.within }
+            (λ j u ne e. r.each j u e));
+      }
+
+  pub rings : (slots id : ℕ) (v : V3) (cs : List (ℕ × Option S)) (word : ℕ) (f : ℕ → ℕ) → 2 ≤ word
+      → Allows (Lock seat_of history fits opening seats) slots id (v, cs) word f (RingsBell (step slots word 1 0 none) (v, cs))
+  rings slots id v cs word f high s r wide at bound = (view_rung word v, keeps, tt, rung s r id v word (f (get_or s.words word 0)) at high, refl)
 
 -- the one slot that is held
 pub one_hand : {A : Type 0} (l : List (ℕ × A)) (x : ℕ × A) → l ≡ x ∷ [] → l ≡ x ∷ rest l

@@ -40,7 +40,7 @@ module _ {S E N : Type 0} (seat_of : E → ℕ) (history : S → List E) (fits :
     notes = r.notes;
     owner = owner;
     holder = r.holder;
-    two = r.two;
+    five = r.five;
     one = r.one;
     fitting = r.fitting;
     sized = r.sized;
@@ -286,13 +286,13 @@ replicate_at (suc n) (suc k) a lt = replicate_at n k a (omega (arith, lt))
 
 -- the rule as the lock is started
 pub starts : {S E N : Type 0} (seat_of : E → ℕ) (history : S → List E) (fits : S → S → List (Option N) → Type 0) (o : S) (seats : ℕ) → history o ≡ [] → fits o o (replicate seats None)
-    → Lock seat_of history fits o seats (table_opening (0 ∷ 0 ∷ []) (Some o ∷ []) (dealer_at o seats 0))
+    → Lock seat_of history fits o seats (table_opening (0 ∷ 0 ∷ 0 ∷ 0 ∷ 0 ∷ []) (Some o ∷ []) (dealer_at o seats 0))
 starts {S} {E} {N} seat_of history fits o seats none_yet fit = record {
   core = o;
   notes = replicate seats None;
   owner = λ _. 0;
   holder = 0;
-  two = refl;
+  five = refl;
   one = refl;
   fitting = fit;
   sized = length-replicate seats None;

@@ -1,5 +1,5 @@
 -- The rule of the table under the lock, and what each step tells. Inside: no public clause cites this.
-use Rattle.std.specs.Prelude.{◌≡◌, ◌≢◌, ℕ, ◌+◌, ◌<◌, ◌≤◌, ltb, Bool, true, false, List, [], ◌∷◌, length, slice_index, Option, Some, None, if◌then◌else◌}
+use Rattle.std.specs.Prelude.{◌≡◌, ◌≢◌, ℕ, ◌+◌, ◌<◌, ◌≤◌, ◌==◌, ltb, Bool, true, false, List, [], ◌∷◌, length, slice_index, Option, Some, None, if◌then◌else◌}
 use mathlib.Core.Option.{some}
 use mathlib.Core.List.{IsPrefix}
 use lib.ListN.{get_elem?}
@@ -43,6 +43,8 @@ module _ {S E N : Type 0} where
     refused = 0;
     refused_by = None;
     leaves = 0;
+    told = 0;
+    told_files = 0;
     emptied = 0;
     last_emptied = None;
   }
@@ -65,6 +67,8 @@ module _ {S E N : Type 0} where
     refused = 0;
     refused_by = None;
     leaves = 0;
+    told = 0;
+    told_files = 0;
     emptied = 0;
     last_emptied = None;
   }
@@ -87,6 +91,8 @@ module _ {S E N : Type 0} where
     refused = 0;
     refused_by = None;
     leaves = 0;
+    told = 0;
+    told_files = 0;
     emptied = 0;
     last_emptied = None;
   }
@@ -109,6 +115,8 @@ module _ {S E N : Type 0} where
     refused = 0;
     refused_by = None;
     leaves = 0;
+    told = 0;
+    told_files = 0;
     emptied = 0;
     last_emptied = None;
   }
@@ -139,6 +147,14 @@ module _ {S E N : Type 0} where
   abbrev pub view_outside : View S E N → View S E N
   view_outside v = record v { inside = false }
 
+  -- It rang the bell of the word w once more: that of leaves, of changes, or of file calls.
+  abbrev pub view_rung : ℕ → View S E N → View S E N
+  view_rung w v = record v {
+    leaves = if w == 2 then v.leaves + 1 else v.leaves;
+    told = if w == 3 then v.told + 1 else v.told;
+    told_files = if w == 4 then v.told_files + 1 else v.told_files;
+  }
+
   -- A seat of the lock as contracts see it.
   abbrev pub seat_view : TableId → View S E N → SeatView S E N
   seat_view l v = record {
@@ -154,6 +170,8 @@ module _ {S E N : Type 0} where
     refused = v.refused;
     refused_by = v.refused_by;
     leaves = v.leaves;
+    told = v.told;
+    told_files = v.told_files;
     emptied = v.emptied;
     last_emptied = v.last_emptied;
   }
@@ -170,7 +188,6 @@ module _ {S E N : Type 0} (seat_of : E → ℕ) (history : S → List E) where
     note = n;
     own = entries_by seat_of v.number (history t);
     seen = history t;
-    leaves = v.leaves + 1;
     emptied = if empties v.note n then v.emptied + 1 else v.emptied;
     last_emptied = if empties v.note n then v.note else v.last_emptied;
   }
@@ -192,13 +209,13 @@ module _ {S E N : Type 0} (seat_of : E → ℕ) (history : S → List E) where
 
 module _ {S E N : Type 0} (seat_of : E → ℕ) (history : S → List E) (fits : S → S → List (Option N) → Type 0) where
   -- There is one state, which fits the opening and the notes of all seats. Word 0 is 0 while the state lies in the slot, and else names the seat that has the
-  -- turn, plus 1. Word 1 is the length of the history.
+  -- turn, plus 1. Word 1 is the length of the history. Words 2, 3 and 4 are the numbers of the bells, of which nothing is known.
   pub record Lock (opening : S) (seats : ℕ) (s : State (Option S) (View S E N)) : Type 0 where
     pub core : S
     pub notes : List (Option N)
     pub owner : ℕ → ℕ
     pub holder : ℕ
-    pub two : length s.words ≡ 2
+    pub five : length s.words ≡ 5
     pub one : length s.homes ≡ 1
     pub fitting : fits opening core notes
     pub sized : length notes ≡ seats
@@ -222,6 +239,10 @@ module _ {S E N : Type 0} where
   -- Releasing: the seat is outside and has no slot.
   abbrev pub ReleasesTurn : Step (Option S) → Me (Option S) (View S E N) → ℕ → Me (Option S) (View S E N) → Type 0
   ReleasesTurn st m r m' = m' ≡ (view_outside m.0, [])
+
+  -- Ringing the bell of a word.
+  abbrev pub RingsBell : Step (Option S) → Me (Option S) (View S E N) → ℕ → Me (Option S) (View S E N) → Type 0
+  RingsBell st m r m' = m' ≡ (view_rung st.word m.0, m.1)
 
   -- Looking: a history as long as the word says begins with what the seat had seen and with each old one that a join left it. What it has seen has of its entries just those that it made.
   abbrev pub LooksAtLength : (E → ℕ) → Step (Option S) → Me (Option S) (View S E N) → ℕ → Me (Option S) (View S E N) → Type 0

@@ -15,7 +15,8 @@ pub record LockView (S : Type 0) : Type 0 where
 
 -- A seat: the lock that it is of, with that lock's opening and number of seats; its number; whether it is inside; the state that it entered with, while it is
 -- inside, and else the one that it left last; its note; the entries that it made; the history that it has seen; how many of its tries were refused, and which
--- seat had the turn at the last of these; how many times it left, how many of these leaves emptied its note, and the note that the last such leave emptied.
+-- seat had the turn at the last of these; how many times it left; how many times it told of a change, and of a file's call that is over; how many of its leaves
+-- emptied its note, and the note that the last such leave emptied.
 pub record SeatView (S E N : Type 0) : Type 0 where
   pub lock : TableId
   pub opening : Option S
@@ -29,6 +30,8 @@ pub record SeatView (S E N : Type 0) : Type 0 where
   pub refused : ℕ
   pub refused_by : Option ℕ
   pub leaves : ℕ
+  pub told : ℕ
+  pub told_files : ℕ
   pub emptied : ℕ
   pub last_emptied : Option N
 
@@ -75,6 +78,8 @@ module _ {S E N : Type 0} where
     refused = 0;
     refused_by = None;
     leaves = 0;
+    told = 0;
+    told_files = 0;
     emptied = 0;
     last_emptied = None;
   }
@@ -86,6 +91,10 @@ module _ {S E N : Type 0} where
   -- The seat is inside, with this state.
   abbrev pub after_enter : SeatView S E N → S → SeatView S E N
   after_enter v s = record v { inside = true; state = Some s }
+
+  -- The seat told so many times of a change, and of a file's call.
+  abbrev pub after_tells : ℕ → ℕ → SeatView S E N → SeatView S E N
+  after_tells changes files v = record v { told = v.told + changes; told_files = v.told_files + files }
 
   -- One more of its tries was refused: the seat k had the turn.
   abbrev pub after_refusal : SeatView S E N → ℕ → SeatView S E N

@@ -46,6 +46,8 @@ pub struct View<S, E, N> {
     pub refused: u64,
     pub refused_by: Option<u64>,
     pub leaves: u64,
+    pub told: u64,
+    pub told_files: u64,
     pub emptied: u64,
     pub last_emptied: Option<N>,
 }

@@ -86,9 +86,11 @@ impl<S: Guarded> KernelLock<S> {
             seats: _,
             leaves,
             changes,
+            files,
         } = self;
         drop(leaves);
         drop(changes);
+        drop(files);
         let mut closed = table.close_with(from.into_place());
         let slot = closed.take(0);
         closed.free();

@@ -1,13 +1,13 @@
 //! The lock: taking the turn, leaving a new state, and telling another seat.
-ghost use Rattle.std.specs.Prelude.{◌≡◌, ◌≢◌, ◌<◌, ℕ, true, false, [], Option, Some, IfSome, IfNone};
+ghost use Rattle.std.specs.Prelude.{◌≡◌, ◌≢◌, ◌<◌, ◌≤◌, ℕ, true, false, [], Option, Some, IfSome, IfNone};
 ghost use mathlib.Core.List.{IsPrefix};
-ghost use Rattle.kernel_lock.specs.Rule.{view_made_known};
-ghost use Rattle.kernel_lock.specs.Seats.{IsSeatOf, part_of, after_enter, after_refusal, HasTried, after_leave, entries_by, IsEntered};
+ghost use Rattle.kernel_lock.specs.Rule.{view_made_known, view_rung};
+ghost use Rattle.kernel_lock.specs.Seats.{IsSeatOf, part_of, after_enter, after_refusal, HasTried, after_leave, after_tells, entries_by, IsEntered};
 
-use crate::bell::Bell;
+use crate::bell::{Asked, Bell};
 use crate::board::{About, LockRule, TableSeat, View};
 use crate::guarded::Guarded;
-use crate::plays::{Cut, Glue, Look, MakeKnown, Release, Said, Take};
+use crate::plays::{Cut, Glue, Look, MakeKnown, Release, Ring, Said, Take};
 use crate::seat::Seat;
 use atomic_table::Table;
 use std::alloc::Global;
@@ -20,8 +20,10 @@ use std::sync::Wait;
 pub struct KernelLock<S: Guarded> {
     pub(crate) table: Table<Option<S>, View<S, S::Entry, S::Note>, About<S>, LockRule<S>, Global>,
     pub(crate) seats: u32,
-    pub(crate) leaves: Bell,
-    pub(crate) changes: Bell,
+    // Those who wait for the lock; for a page or a disk behind it; and for a call of a file.
+    pub(crate) leaves: Bell<2>,
+    pub(crate) changes: Bell<3>,
+    pub(crate) files: Bell<4>,
 }
 
 impl<S: Guarded> Model for KernelLock<S> {
@@ -36,7 +38,7 @@ impl<S: Guarded> Model for KernelLock<S> {
       opening = l.table.shared.key.opening.value;
     } };
 
-    ghost invariant = { λ l. (l.table.shared.table_id.words ≡ 2)
+    ghost invariant = { λ l. (l.table.shared.table_id.words ≡ 5)
         × (l.table.shared.table_id.slots ≡ 1) × (l.table.shared.key.seats ≡ l.seats) };
 }
 
@@ -126,7 +128,7 @@ impl<S: Guarded> KernelLock<S> {
         let before = self.table.shared.exchange(&mut seat.place, 0, Some(state));
         let None = before else { unreachable!() };
         self.table.shared.store::<Release>(&mut seat.place, 0, 0);
-        self.leaves.ring();
+        self.ring(&mut seat.place, &self.leaves, &mut Asked::nobody());
     }
 
     /// Tells one seat what another has seen. It takes no memory and waits for nobody.
@@ -147,36 +149,114 @@ impl<S: Guarded> KernelLock<S> {
         self.table.shared.load::<Look<S>>(&mut to.place, 1);
     }
 
+    // Rings a bell once more: the seat's count of it rises. It wakes one of those who sleep.
+    #[inline(always)]
+    fn ring<const WORD: usize>(
+        &self,
+        place: &mut TableSeat<S, S::Entry, S::Note>,
+        bell: &Bell<WORD>,
+        asked: &mut Asked,
+    )
+        requires lock { place.old.table_id ≡ self.now.lock }
+        requires word { (2 ≤ WORD) × (WORD < 5) }
+        //
+        ensures lock { (place.new.table_id ≡ place.old.table_id) × (place.new.id ≡ place.old.id) }
+        ensures rung { place.new.me ≡ (view_rung WORD place.old.me.0, place.old.me.1) }
+        ensures asked { asked.new ≡ record asked.old { one = true } }
+    {
+        // `raises` in wait_model
+        self.table.shared.fetch_add::<Ring>(place, WORD, 1);
+        bell.wake_one(asked);
+    }
+
+    // The same, but that it wakes all who sleep.
+    fn ring_all<const WORD: usize>(
+        &self,
+        place: &mut TableSeat<S, S::Entry, S::Note>,
+        bell: &Bell<WORD>,
+        asked: &mut Asked,
+    )
+        requires lock { place.old.table_id ≡ self.now.lock }
+        requires word { (2 ≤ WORD) × (WORD < 5) }
+        //
+        ensures lock { (place.new.table_id ≡ place.old.table_id) × (place.new.id ≡ place.old.id) }
+        ensures rung { place.new.me ≡ (view_rung WORD place.old.me.0, place.old.me.1) }
+        ensures asked { asked.new ≡ record asked.old { all = true } }
+    {
+        // `raises` in wait_model
+        self.table.shared.fetch_add::<Ring>(place, WORD, 1);
+        bell.wake_all(asked);
+    }
+
+    // Sleeps until the bell's number differs from `seen`, or answers earlier.
+    fn rest_on<R: Wait, const WORD: usize>(&self, rt: &R, bell: &Bell<WORD>, seen: u64)
+        requires word { WORD < 5 }
+    {
+        // `compares`, or `sees_rise`
+        if self.table.shared.peek(WORD) != seen {
+            return;
+        }
+        bell.lie_down();
+        // `compares`, or `sees_rise`
+        if self.table.shared.peek(WORD) == seen {
+            bell.sleep(rt);
+        }
+    }
+
     /// How many times `leave` was called, modulo 2 to the 64. Nothing is promised of it.
     pub fn leaves(&self) -> u64 {
-        self.leaves.rings()
+        self.table.shared.peek(2)
     }
 
     /// Sleeps until `leaves` differs from `seen`, or answers earlier. A leave wakes one of those who sleep, so whoever rests tries again
     /// until it goes in. Nothing is promised of it.
     pub fn rest<R: Wait>(&self, rt: &R, seen: u64) {
-        self.leaves.rest(rt, seen);
+        self.rest_on(rt, &self.leaves, seen);
     }
 
     /// How many times `tell` was called, modulo 2 to the 64. Nothing is promised of it.
     pub fn changes(&self) -> u64 {
-        self.changes.rings()
+        self.table.shared.peek(3)
     }
 
     /// Wakes one of those who rest on a change. A caller tells where its leave may let somebody go on who waits
-    /// for something behind the lock, and not for the lock itself.
-    pub fn tell(&self) {
-        self.changes.ring();
+    /// for a page or a disk behind the lock, and not for the lock itself.
+    pub fn tell(&self, seat: &mut Seat<S>)
+        requires seat { IsSeatOf self.now seat.old }
+        ensures seat { IsSeatOf self.now seat.new }
+        ensures told { seat.new ≡ after_tells 1 0 seat.old }
+    {
+        self.ring(&mut seat.place, &self.changes, &mut Asked::nobody());
     }
 
-    /// Wakes one of those who rest on a change, as `tell` does, where nothing has changed: for whoever rested, and ends without a `tell`.
+    /// Wakes one of those who rest on a change, as `tell` does, where nothing has changed: for whoever rested, and ends without a `tell`, or
+    /// rests elsewhere.
     pub fn pass_on(&self) {
-        self.changes.wake_one();
+        self.changes.wake_one(&mut Asked::nobody());
     }
 
     /// Sleeps until `changes` differs from `seen`, or answers earlier. A `tell` wakes one of those who sleep, so whoever rested tells or
-    /// passes on by and by, or rests again where somebody else holds it up, who will tell. Nothing is promised of it.
+    /// passes on by and by, or rests again where somebody else holds it up, who has a transfer out and will tell. Nothing is promised of it.
     pub fn rest_on_change<R: Wait>(&self, rt: &R, seen: u64) {
-        self.changes.rest(rt, seen);
+        self.rest_on(rt, &self.changes, seen);
+    }
+
+    /// How many times `tell_files` was called, modulo 2 to the 64. Nothing is promised of it.
+    pub fn files(&self) -> u64 {
+        self.table.shared.peek(4)
+    }
+
+    /// Wakes all who rest on a file's call: where one is over.
+    pub fn tell_files(&self, seat: &mut Seat<S>)
+        requires seat { IsSeatOf self.now seat.old }
+        ensures seat { IsSeatOf self.now seat.new }
+        ensures told { seat.new ≡ after_tells 0 1 seat.old }
+    {
+        self.ring_all(&mut seat.place, &self.files, &mut Asked::nobody());
+    }
+
+    /// Sleeps until `files` differs from `seen`, or answers earlier. Nothing is promised of it.
+    pub fn rest_on_files<R: Wait>(&self, rt: &R, seen: u64) {
+        self.rest_on(rt, &self.files, seen);
     }
 }

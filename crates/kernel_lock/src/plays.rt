@@ -1,6 +1,6 @@
 //! What each step on the table tells the seat that makes it.
 ghost use Rattle.std.specs.Prelude.{Option, None};
-ghost use Rattle.kernel_lock.specs.Rule.{TakesTurn, MakesKnown, ReleasesTurn, LooksAtLength, courier, longer_seen, blank_view, dealt_seat, dealer_after, with_known_seat, SitsDown};
+ghost use Rattle.kernel_lock.specs.Rule.{TakesTurn, MakesKnown, ReleasesTurn, RingsBell, LooksAtLength, courier, longer_seen, blank_view, dealt_seat, dealer_after, with_known_seat, SitsDown};
 
 use crate::board::View;
 use crate::guarded::Guarded;
@@ -44,6 +44,13 @@ pub(crate) struct Release;
 
 impl<S, E, N> Play<Option<S>, View<S, E, N>> for Release {
     ghost then = { ReleasesTurn };
+}
+
+/// A seat rings the bell of a word. Its count of these rings rises.
+pub(crate) struct Ring;
+
+impl<S, E, N> Play<Option<S>, View<S, E, N>> for Ring {
+    ghost then = { RingsBell };
 }
 
 /// A seat reads how long the history is.

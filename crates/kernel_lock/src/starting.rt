@@ -52,7 +52,7 @@ fn deal<S: Guarded>(
     dealer: &mut TableSeat<S, S::Entry, S::Note>,
     number: u32,
 ) -> Seat<S>
-    requires board { (dealer.old.table_id ≡ board.now.table_id) × (board.now.table_id.words ≡ 2) }
+    requires board { (dealer.old.table_id ≡ board.now.table_id) × (board.now.table_id.words ≡ 5) }
     requires dealer { dealer.old.me
         ≡ (dealer_at board.now.key.opening.value board.now.key.seats number, []) }
     requires room { number < board.now.key.seats }
@@ -76,7 +76,7 @@ fn deal_all<S: Guarded>(
     seats: u32,
     row: &mut Vec<Seat<S>>,
 )
-    requires board { (dealer.old.table_id ≡ board.now.table_id) × (board.now.table_id.words ≡ 2) }
+    requires board { (dealer.old.table_id ≡ board.now.table_id) × (board.now.table_id.words ≡ 5) }
     requires dealer { dealer.old.me
         ≡ (dealer_at board.now.key.opening.value board.now.key.seats 0, []) }
     requires room { seats ≤ board.now.key.seats }
@@ -118,7 +118,7 @@ impl<S: Guarded> KernelLock<S> {
             return Err(state);
         };
         let slots = slot_of(alloc, state)?;
-        match Table::new(alloc, &[0, 0], slots, &about) {
+        match Table::new(alloc, &[0, 0, 0, 0, 0], slots, &about) {
             Ok((table, mut dealer)) => {
                 deal_all(&table.shared, &mut dealer, seats, &mut row);
                 let lock = KernelLock {
@@ -126,6 +126,7 @@ impl<S: Guarded> KernelLock<S> {
                     seats,
                     leaves: Bell::new(),
                     changes: Bell::new(),
+                    files: Bell::new(),
                 };
                 Ok((lock, row))
             }

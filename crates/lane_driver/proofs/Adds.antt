@@ -10,9 +10,10 @@ use Rattle.fault_entry.specs.seg_vn.declared.attempt.Attempt.{Attempt}
 use Rattle.fault_entry.specs.seg_vn.declared.attempt.Attempt.TheVariants.{Done, Need, Busy}
 use Rattle.fault_entry.specs.vm_world.State.{KernelState}
 use Rattle.vm_core.specs.Calls.{AnswersCall}
-use Rattle.vm_core.specs.Flights.{EndsWith, answer_at_end}
+use Rattle.vm_core.specs.Flights.{EndsWith}
+use Rattle.vm_core.specs.SeatSteps.{AfterTry}
 use Rattle.lane_driver.specs.Lanes.{LaneSeen, lane_after, lane_process, next_call}
-use Rattle.lane_driver.specs.LaneTurns.{AfterTry, LandsFlight, TakesLaneTurn, TriesNext, TurnsBy}
+use Rattle.lane_driver.specs.LaneTurns.{IsDoneBy, LandsLaneFlight, TakesLaneTurn, TriesLaneCall, TurnsBy}
 
 -- one entry more, of this process and call, which ends the call
 pub record AddsOne (s t : KernelState) (p : ℕ) (call : Call) : Type 0 where
@@ -26,22 +27,22 @@ pub record AddsOne (s t : KernelState) (p : ℕ) (call : Call) : Type 0 where
 abbrev pub AddsWhere : KernelState → KernelState → ℕ → Call → Bool → Type 0
 AddsWhere s t p call done = ((done ≡ false) × (t.history ≡ s.history)) ⊎ ((done ≡ true) × AddsOne s t p call)
 
-tried-adds : (s t mid : KernelState) (seat : ℕ) (call : Call) (a : Attempt) (done : Bool) (flight : Option FlightSeen) → AnswersCall s mid seat (seat + 1) call a → AfterTry mid t seat call a done flight → AddsWhere s t (seat + 1) call done
-tried-adds s t mid seat call (Done reply) done flight answers goes = inr (
-  goes.1,
+tried-adds : (s t mid : KernelState) (seat : ℕ) (call : Call) (a : Attempt) (done : Bool) (flight : Option FlightSeen) → AnswersCall s mid seat (seat + 1) call a → AfterTry mid t seat a flight → IsDoneBy call a done → AddsWhere s t (seat + 1) call done
+tried-adds s t mid seat call (Done reply) done flight answers goes tells = inr (
+  tells.0,
   record {
     entry = record { process = seat + 1; call = call; reply = reply; cleared = answers.cleared };
     history = ap (λ (x : KernelState). x.history) goes.0 ∙ answers.adds.history;
     process = refl;
     is = refl;
-    ends = goes.3;
+    ends = tells.1;
   },
 )
-tried-adds s t mid seat call (Busy h) done flight answers goes = inl (goes.1, ap (λ (x : KernelState). x.history) goes.0 ∙ answers.began.none.history)
-tried-adds s t mid seat call (Need plan) done flight answers goes = inl (goes.0, ap (λ (x : KernelState). x.history) goes.1.2.rest ∙ answers.began.none.history)
+tried-adds s t mid seat call (Busy h) done flight answers goes tells = inl (tells, ap (λ (x : KernelState). x.history) goes.0 ∙ answers.began.none.history)
+tried-adds s t mid seat call (Need plan) done flight answers goes tells = inl (tells, ap (λ (x : KernelState). x.history) goes.2.rest ∙ answers.began.none.history)
 
-pub try-adds : (s t : KernelState) (seat : ℕ) (call : Call) (done : Bool) (flight : Option FlightSeen) → TriesNext s t seat call done flight → AddsWhere s t (seat + 1) call done
-try-adds s t seat call done flight tries = tried-adds s t tries.mid seat call tries.attempt done flight tries.answers tries.goes
+pub try-adds : (s t : KernelState) (seat : ℕ) (call : Call) (done : Bool) (flight : Option FlightSeen) → TriesLaneCall s t seat call done flight → AddsWhere s t (seat + 1) call done
+try-adds s t seat call done flight tries = tried-adds s t tries.next.mid seat call tries.attempt done flight tries.next.tries.answers tries.next.goes tries.tells
 
 landed-adds : (s t : KernelState) (p : ℕ) (call : Call) (answer : Option Reply) (done : Bool) → EndsWith s t (Some (p, call)) answer → done ≡ is_some answer → ((reply : Reply) → answer ≡ Some reply → IsTrue (ends_call call reply)) → AddsWhere s t p call done
 landed-adds s t p call None done ends is whole = inl (is, ends.none.history)
@@ -50,8 +51,8 @@ landed-adds s t p call (Some reply) done ends is whole = inr (
   record { entry = record { process = p; call = call; reply = reply; cleared = s.pending }; history = ends.history; process = refl; is = refl; ends = whole reply refl },
 )
 
-pub land-adds : (s t : KernelState) (seat : ℕ) (call : Call) (f : FlightSeen) (done : Bool) → LandsFlight s t seat call f done → AddsWhere s t (seat + 1) call done
-land-adds s t seat call f done lands = landed-adds s t (seat + 1) call (answer_at_end lands.comes.back (Some (seat + 1, call))) done lands.entry lands.tells lands.whole
+pub land-adds : (s t : KernelState) (seat : ℕ) (call : Call) (f : FlightSeen) (done : Bool) → LandsLaneFlight s t seat call f done → AddsWhere s t (seat + 1) call done
+land-adds s t seat call f done lands = landed-adds s t (seat + 1) call lands.answer done lands.lands.entry lands.tells lands.whole
 
 -- THE TURN: what the lane is then, and what the history has more.
 pub record TurnAdds (s t : KernelState) (lane new : LaneSeen) : Type 0 where

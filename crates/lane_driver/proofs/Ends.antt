@@ -24,7 +24,8 @@ use Rattle.vm_core.specs.Flights.{error_at_end}
 use Rattle.lane_driver.specs.Alone.{IsAlone, IsAllDone, turns_enough}
 use Rattle.lane_driver.specs.Drives.{Drives, StepsLane}
 use Rattle.lane_driver.specs.Lanes.{LaneSeen, HaveOwnSeats, calls_left, lane_after, next_call, sent_by, with_lanes}
-use Rattle.lane_driver.specs.LaneTurns.{AfterTry, LandsFlight, SendsFlight, TakesLaneTurn, TriesNext, TurnsBy}
+use Rattle.vm_core.specs.SeatSteps.{AfterTry, SendsFlight}
+use Rattle.lane_driver.specs.LaneTurns.{IsDoneBy, LandsLaneFlight, TakesLaneTurn, TriesLaneCall, TurnsBy}
 use Rattle.lane_driver.proofs.Adds.{turn-adds}
 use Rattle.lane_driver.proofs.Driven.{step-fits}
 use Rattle.lane_driver.proofs.MayGo.{last-one, last-other, no-open}
@@ -103,28 +104,28 @@ record Needs (opening : Flat) (s t : KernelState) (seat : ℕ) (call : Call) (fl
   is : flight ≡ Some f
 
 tried : (opening : Flat) (s t : KernelState) (seat : ℕ) (call : Call) (done : Bool) (flight : Option FlightSeen) → StateFits opening s no_seats → ((p f : ℕ) → ¬ IsSomeAnd (last_entry p s.history) (IsOpenPart f))
-    → TriesNext s t seat call done flight → ((done ≡ true) × (flight ≡ None)) ⊎ ((done ≡ false) × Needs opening s t seat call flight)
-tried opening s t seat call done flight fits whole tries = by_attempt tries.attempt tries.answers tries.goes
+    → TriesLaneCall s t seat call done flight → ((done ≡ true) × (flight ≡ None)) ⊎ ((done ≡ false) × Needs opening s t seat call flight)
+tried opening s t seat call done flight fits whole tries = by_attempt tries.attempt tries.next.tries.answers tries.next.goes tries.tells
   where
-    then-fits : StateFits opening tries.mid no_seats
-    then-fits = subst (λ (x : Seats). StateFits opening tries.mid x) (same-seats no_seats seat None refl) (tries.event.fits opening no_seats refl fits)
+    then-fits : StateFits opening tries.next.mid no_seats
+    then-fits = subst (λ (x : Seats). StateFits opening tries.next.mid x) (same-seats no_seats seat None refl) (tries.next.tries.event.fits opening no_seats refl fits)
 
-    by_attempt : (a : Attempt) → AnswersCall s tries.mid seat (seat + 1) call a → AfterTry tries.mid t seat call a done flight → ((done ≡ true) × (flight ≡ None)) ⊎ ((done ≡ false) × Needs opening s t seat call flight)
-    by_attempt (Done reply) answers goes = inl (goes.1, goes.2)
-    by_attempt (Busy h) answers goes = elim (event_law.holds opening tries.mid no_seats (seat + 1) call h then-fits answers.holds) [
+    by_attempt : (a : Attempt) → AnswersCall s tries.next.mid seat (seat + 1) call a → AfterTry tries.next.mid t seat a flight → IsDoneBy call a done → ((done ≡ true) × (flight ≡ None)) ⊎ ((done ≡ false) × Needs opening s t seat call flight)
+    by_attempt (Done reply) answers goes tells = inl (tells.0, goes.1)
+    by_attempt (Busy h) answers goes tells = elim (event_law.holds opening tries.next.mid no_seats (seat + 1) call h then-fits answers.holds) [
       | inl some ↦ absurd (let z : false ≡ true = some in cc)
       | inr part ↦ absurd (whole (suc (seat_in h)) part.0 (subst (λ (H : List Entry). IsSomeAnd (last_entry (suc (seat_in h)) H) (IsOpenPart part.0)) answers.began.none.history part.1))
     ]
-    by_attempt (Need plan) answers goes = inr (
-      goes.0,
+    by_attempt (Need plan) answers goes tells = inr (
+      tells,
       record {
-        mid = tries.mid;
+        mid = tries.next.mid;
         plan = plan;
-        f = goes.1.0;
+        f = goes.0;
         fits = then-fits;
         needs = answers;
-        sends = goes.1.2;
-        is = goes.1.1;
+        sends = goes.2;
+        is = goes.1;
       },
     )
 
@@ -184,7 +185,7 @@ first-turn frames s u lane after turns stays idle bound turn = by_call (next_cal
 
 -- THE SECOND TURN
 landed : (u v : KernelState) (lane after : LaneSeen) (f : FlightSeen) (call : Call) → lane.flight ≡ Some f → next_call lane ≡ Some call → TakesLaneTurn u v lane after
-    → (done : Bool) × LandsFlight u v lane.seat call f done × (after ≡ lane_after lane done None)
+    → (done : Bool) × LandsLaneFlight u v lane.seat call f done × (after ≡ lane_after lane done None)
 landed u v lane after f call out at turn = subst (λ (o : Option FlightSeen). TurnsBy o (Some call) u v lane after) out (subst (λ (c : Option Call). TurnsBy lane.flight c u v lane after) at turn.turns)
 
 second-turn : (frames : ℕ) (u v : KernelState) (lane after : LaneSeen) (turns : ℕ) → StaysAlone frames u lane → Pending frames u lane (suc turns) → TakesLaneTurn u v lane after → (after.flight ≡ None) × Bound frames v after turns
@@ -192,8 +193,8 @@ second-turn frames u v lane after turns stays p turn =
     let n = p.needs in
     let land = landed u v lane after n.f p.call n.is p.next turn in (
       ap (λ (l : LaneSeen). l.flight) land.2,
-      by_done land.0 land.2 (elim (round-falls p.opening p.s n.mid lane.seat p.call n.plan n.fits p.sound n.needs u v n.f n.sends land.1.comes p.most p.comes) [
-        | inl lost ↦ inl (land.1.tells ∙ ap (λ (o : Progress). is_some (error_at_end land.1.comes.back o)) lost)
+      by_done land.0 land.2 (elim (round-falls p.opening p.s n.mid lane.seat p.call n.plan n.fits p.sound n.needs u v n.f n.sends land.1.lands.comes p.most p.comes) [
+        | inl lost ↦ inl (land.1.tells ∙ ap is_some land.1.lands.tells ∙ ap (λ (o : Progress). is_some (error_at_end land.1.lands.comes.back o)) lost)
         | inr less ↦ inr less
       ]),
     )

@@ -48,7 +48,7 @@ use Rattle.fault_entry.proofs.page_store.FrameLaws.{eq-far as is-other}
 use Rattle.fault_entry.proofs.page_store.TransferLemmas.{is-or-not}
 use Rattle.vm_core.specs.Calls.{IsNeeded}
 use Rattle.vm_core.specs.Flights.{KeepsButPushed}
-use Rattle.lane_driver.specs.LaneTurns.{ReturnsFlight, SendsFlight}
+use Rattle.vm_core.specs.SeatSteps.{ReturnsFlight, SendsFlight}
 use Rattle.lane_driver.proofs.Counts.{AtMost, at-most-below, at-most-falls, at-most-fewer, at-most-some}
 use Rattle.lane_driver.proofs.Falls.{IsDirtyFrame, dirty-below, push-falls, push-home, read-home, read-keeps}
 use Rattle.lane_driver.proofs.Securing.{Firm, IsHome, IsKept, MissesFirm, MissesTail, SameGround, Tail, WantsSome, firm-same, firm-wanted, ground-back, one-firm, one-tail, some-wanted, tail-file, tail-same, tail-wanted, wanted-one}
@@ -73,7 +73,7 @@ dirty-before u w none sound apart k d = by_name (name_at w.store.names k) refl
     by_name : (o : Option PageName) → name_at w.store.names k ≡ o → IsDirtyFrame u k
     by_name None is = absurd (let z : false ≡ true = sym (ap is_some is) ∙ d.named in cc)
     by_name (Some n) is =
-        let was = none n k (residence-home w.store n k sound.distinct is d.home) d.modified in
+        let was = none.modified n k (residence-home w.store n k sound.distinct is d.home) d.modified in
         record { named = ap is_some (find-at u.store.names n k (home-is u.store n k was.0).found); home = home-some u.store n k was.0; modified = was.1 }
 
 -- the bits of a page's translations, once gathered, move no page
@@ -232,7 +232,7 @@ module _ (opening : Flat) (s m : KernelState) (seat : ℕ) (call : Call) (plan :
           let some = at-most-some comes.dirty (IsDirtyFrame s.memory.world) own.0 comes.are_dirty (dirty-tried own.0 own.2) in omega (arith, some, low)
 
   -- THE TRANSFER goes out, and comes back.
-  module _ (t u : KernelState) (f : FlightSeen) (sends : SendsFlight m t seat plan f) (comes : ReturnsFlight t u f) where
+  module _ (t u : KernelState) (f : FlightSeen) (sends : SendsFlight m t seat plan f) (comes : ReturnsFlight t u (note_of f)) where
     abbrev back : FlightSeen
     back = comes.back
 

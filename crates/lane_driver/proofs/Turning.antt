@@ -11,7 +11,8 @@ use Rattle.fault_entry.specs.vm_world.Events.{IsEvent}
 use Rattle.fault_entry.specs.vm_world.State.{Fixed, KernelState, Sent}
 use Rattle.fault_entry.proofs.vm_world.Told.{event_law}
 use Rattle.lane_driver.specs.Lanes.{LaneSeen, AreLaneCalls, IsSoundLane, MayMakeCalls, lane_after, lane_sent, next_call, sent_by, sent_for}
-use Rattle.lane_driver.specs.LaneTurns.{AfterTry, TakesLaneTurn, TurnsBy, TurnsCall}
+use Rattle.vm_core.specs.SeatSteps.{AfterTry}
+use Rattle.lane_driver.specs.LaneTurns.{IsDoneBy, TakesLaneTurn, TurnsBy, TurnsCall}
 use Rattle.lane_driver.proofs.Adds.{turn-adds}
 use Rattle.lane_driver.proofs.Ends.{left-none, none-sent}
 use Rattle.lane_driver.proofs.MayGo.{may-after}
@@ -32,14 +33,14 @@ rest-turn s lane sound none = record {
         absurd (omega (arith, past, lt))
 
 -- a call that is done has no transfer out
-tried-none : (mid t : KernelState) (seat : ℕ) (call : Call) (a : Attempt) (done : Bool) (out : Option FlightSeen) → AfterTry mid t seat call a done out → done ≡ true → out ≡ None
-tried-none mid t seat call (Done reply) done out goes is = goes.2
-tried-none mid t seat call (Busy h) done out goes is = absurd (let z : false ≡ true = sym goes.1 ∙ is in cc)
-tried-none mid t seat call (Need plan) done out goes is = absurd (let z : false ≡ true = sym goes.0 ∙ is in cc)
+tried-none : (mid t : KernelState) (seat : ℕ) (call : Call) (a : Attempt) (done : Bool) (out : Option FlightSeen) → AfterTry mid t seat a out → IsDoneBy call a done → done ≡ true → out ≡ None
+tried-none mid t seat call (Done reply) done out goes tells is = goes.1
+tried-none mid t seat call (Busy h) done out goes tells is = absurd (let z : false ≡ true = sym tells ∙ is in cc)
+tried-none mid t seat call (Need plan) done out goes tells is = absurd (let z : false ≡ true = sym tells ∙ is in cc)
 
 pub done-none : (s t : KernelState) (seat : ℕ) (call : Call) (flight : Option FlightSeen) (done : Bool) (out : Option FlightSeen) → TurnsCall s t seat call flight done out → done ≡ true → out ≡ None
 done-none s t seat call (Some f) done out turns is = turns.1
-done-none s t seat call None done out turns is = tried-none turns.mid t seat call turns.attempt done out turns.goes is
+done-none s t seat call None done out turns is = tried-none turns.next.mid t seat call turns.attempt done out turns.next.goes turns.tells is
 
 -- what the lane has outside then
 sent-after : (lane : LaneSeen) (call : Call) (done : Bool) (out : Option FlightSeen) → next_call lane ≡ Some call → (done ≡ true → out ≡ None) → option_map (sent_for lane.seat call) out ≡ lane_sent (lane_after lane done out)

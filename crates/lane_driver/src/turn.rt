@@ -4,7 +4,7 @@ ghost use Rattle.fault_entry.specs.page_store.Flight.{fresh};
 ghost use Rattle.fault_entry.specs.vm_world.Events.{CanTry, IsEvent};
 ghost use Rattle.vm_core.specs.Fits.{FitsAt};
 ghost use Rattle.lane_driver.specs.Lanes.{IsLaneCall, sent_for};
-ghost use Rattle.lane_driver.specs.LaneTurns.{LandsFlight, TriesNext, TurnsCall};
+ghost use Rattle.lane_driver.specs.LaneTurns.{LandsLaneFlight, TriesLaneCall, TurnsCall};
 
 use std::alloc::AllocError;
 use vm_core::{Attempt, Call, Disk, Flight, VmState};
@@ -17,7 +17,7 @@ fn land<D: Disk>(state: &mut VmState<D>, seat: u32, call: &Call, flight: Flight<
     requires fits { FitsAt state.old seat (Some (sent_for seat call.now flight)) }
     requires fresh { flight.outcome ≡ fresh }
     // What its end does.
-    ensures lands { LandsFlight state.old state.new seat call.now flight result }
+    ensures lands { LandsLaneFlight state.old state.new seat call.now flight result }
     ensures event { IsEvent seat state.old (Some (sent_for seat call.now flight))
         state.new None }
 {
@@ -41,7 +41,7 @@ fn try_next<D: Disk>(
     requires fits { FitsAt state.old seat None }
     requires may { CanTry state.old seat (seat + 1) call.now }
     // What the try does, and what is outside then.
-    ensures tries { IfOk result (λ told. TriesNext state.old state.new seat call.now
+    ensures tries { IfOk result (λ told. TriesLaneCall state.old state.new seat call.now
         told.0 told.1) }
     ensures event { IfOk result (λ told. IsEvent seat state.old None state.new
         (option_map (sent_for seat call.now) told.1)) }

@@ -325,7 +325,7 @@ pub fn hold_and_tell<R: Wait>(
         add(rt, lock, &mut seat, Some(number), 0);
     }
     let _held = put_back(rt, lock, &mut seat, number);
-    lock.tell();
+    lock.tell(&mut seat);
     seat
 }
 

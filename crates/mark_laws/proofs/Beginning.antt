@@ -6,11 +6,12 @@ use Rattle.flat_model.specs.vm_types.declared.call.Entry.{Entry}
 use Rattle.flat_model.specs.Flat.{Flat}
 use Rattle.flat_model.specs.History.{replay}
 use Rattle.page_store.specs.page_hash.declared.PageName.{PageName}
+use Rattle.page_store.specs.Bytes.{clip}
 use Rattle.page_store.specs.Notes.{Note, Notes, with_note}
 use Rattle.disk_marks.specs.declared.marks.Pushing.{Pushing}
 use Rattle.disk_marks.specs.Marks.{MarksSeen, mark_row, push_of}
 use Rattle.disk_marks.specs.Changes.{marks_begun}
-use Rattle.mark_laws.specs.Pages.{bytes_there, page_there, disk_place}
+use Rattle.mark_laws.specs.Pages.{ArePageOf, bytes_there, page_there, disk_place}
 use Rattle.mark_laws.specs.MarksFit.{DiskContents, PushesFile, IsOutWith, IsBeingWritten, IsSentPage, SentFits, MarksFit, pushed_page}
 use Rattle.mark_laws.specs.MarkLaws.{SendsPage}
 use Rattle.page_store.proofs.TransferLemmas.{with_note-same, with_note-other}
@@ -41,6 +42,14 @@ module _ (opening : Flat) (H : List Entry) (contents : DiskContents) (notes : No
       whole = λ _. let v = sends.valid in omega (arith, v);
     }
 
+    own-page : ArePageOf opening H note.name (clip note.valid note.bytes)
+    own-page = record {
+      entries = length H;
+      made = omega arith;
+      inside = subst (λ (F : Flat). 0 < bytes_there F note.name) (sym (all-entries opening H)) sends.inside;
+      same = sends.page ∙ sym (ap (λ (F : Flat). page_there F note.name) (all-entries opening H));
+    }
+
     is-begin : (t : ℕ) (push : Pushing) → t ≡ seat → push_of (marks_begun m seat note.name.object note.name.page (length H)) t ≡ Some push → begin ≡ push
     is-begin t push e is = same_Some begin push (sym (push-same m seat (Some begin) room) ∙ ap (push_of begun) (sym e) ∙ is)
 
@@ -64,6 +73,10 @@ module _ (opening : Flat) (H : List Entry) (contents : DiskContents) (notes : No
         | inr ne ↦
             subst (λ (p : Option Pushing). SentFits opening H (mark_row m other.number other.block) other p) (sym (push-other m seat k (Some begin) ne))
             (fit.sent k other (sym (with_note-other notes seat k (Some note) ne) ∙ is) writes far)
+      ];
+      origin = λ k other is writes far. elim (cases_eq k seat) [
+        | inl e ↦ subst (λ (n : Note). ArePageOf opening H n.name (clip n.valid n.bytes)) (mine k other e is) own-page
+        | inr ne ↦ fit.origin k other (sym (with_note-other notes seat k (Some note) ne) ∙ is) writes far
       ];
       out = λ t push is. elim (cases_eq t seat) [
         | inl e ↦ subst (λ (p : Pushing). IsOutWith (with_note notes seat (Some note)) t p) (is-begin t push e is) (record {
@@ -99,6 +112,7 @@ module _ (opening : Flat) (H : List Entry) (contents : DiskContents) (notes : No
     blanks = fit.blanks;
     places = λ k other is writes far. fit.places k other (before k other is writes far) writes far;
     sent = λ k other is writes far. fit.sent k other (before k other is writes far) writes far;
+    origin = λ k other is writes far. fit.origin k other (before k other is writes far) writes far;
     out = λ t push is.
         let o = fit.out t push is in
         record {

@@ -1,12 +1,11 @@
 -- The pushes of a page are dropped of whose block nothing is promised.
-use Rattle.std.proofs.Common.{◌≡◌, ◌≢◌, ℕ, ◌<◌, ◌==◌, ◌&&◌, Bool, true, false, cond, List, length, Option, Some, None, refl, sym, ap, ◌∙◌, inl, inr, subst, arith}
+use Rattle.std.proofs.Common.{◌≡◌, ◌≢◌, ℕ, ◌==◌, ◌&&◌, Bool, true, false, cond, List, Option, Some, None, refl, sym, ap, ◌∙◌, subst}
 use Rattle.std.proofs.lemmas.Bool.{eq-eqb, eqb-true}
 use Rattle.flat_model.specs.vm_types.declared.call.Entry.{Entry}
 use Rattle.flat_model.specs.Flat.{Flat}
 use Rattle.flat_model.specs.History.{replay}
 use Rattle.page_store.specs.page_hash.declared.PageName.{PageName}
 use Rattle.page_store.specs.Notes.{Note, Notes}
-use Rattle.disk_marks.specs.declared.marks.MarkRow.{MarkRow}
 use Rattle.disk_marks.specs.declared.marks.Pushing.{Pushing}
 use Rattle.disk_marks.specs.Marks.{MarksSeen, mark_row, push_of}
 use Rattle.disk_marks.specs.Changes.{push_dropped, pushes_dropped}
@@ -69,6 +68,7 @@ module _ (opening : Flat) (H : List Entry) (contents : DiskContents) (notes : No
     sent = λ seat note is writes far.
         subst (λ (o : Option Pushing). SentFits opening H (mark_row m note.number note.block) note o) (sym (drop-push m name seat))
         (sent-then note (push_of m seat) (fit.places seat note is writes far) (fit.sent seat note is writes far));
+    origin = fit.origin;
     out = λ seat push is. fit.out seat push (left-push m name seat push is).0;
     inside = λ seat push is. fit.inside seat push (left-push m name seat push is).0;
     synced = fit.synced;

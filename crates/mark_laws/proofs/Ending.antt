@@ -78,6 +78,7 @@ module _ (opening : Flat) (H : List Entry) (old new : DiskContents) (notes : Not
     blanks = fit.blanks;
     places = λ k other is writes far. fit.places k other (left k other is).1 writes far;
     sent = λ k other is writes far. fit.sent k other (left k other is).1 writes far;
+    origin = λ k other is writes far. fit.origin k other (left k other is).1 writes far;
     out = λ t push is.
         let o = fit.out t push is in
         record {
@@ -125,6 +126,7 @@ module _ (opening : Flat) (H : List Entry) (old new : DiskContents) (notes : Not
           subst (λ (r : MarkRow). SentFits opening H r other (push_of (with-row row) k)) (sym (row-other m note.number note.block other.number other.block row has (λ one _. alone k other l.1 l.0 one)))
           (subst (λ (p : Option Pushing). SentFits opening H (mark_row m other.number other.block) other p) (sym (push-other (with_mark_row m note.number note.block row) seat k None l.0))
           (fit.sent k other l.1 w f));
+      origin = λ k other is w f. fit.origin k other (left k other is).1 w f;
       out = λ t push is.
           let l = push-left (with_mark_row m note.number note.block row) seat t push is in
           let o = fit.out t push l.1 in

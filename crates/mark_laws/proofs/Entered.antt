@@ -32,6 +32,7 @@ use Rattle.mark_laws.proofs.Along.{some-and, step-place, place-along, no-end, ze
 use Rattle.mark_laws.proofs.Cutting.{row_taken, row_unpushed}
 use Rattle.mark_laws.proofs.FilesStay.{files_stay_rule}
 use Rattle.mark_laws.proofs.Rows.{told-all}
+use Rattle.mark_laws.proofs.Origins.{page-on}
 use Rattle.mark_laws.proofs.Words.{few-bytes, clip-later, told-map, all-entries, blank-inj}
 
 -- a block with zeros behind one end has them behind a later one
@@ -302,6 +303,7 @@ module _ (opening : Flat) (H : List Entry) (e : Entry) (contents : DiskContents)
       blanks = blanks-then;
       places = λ seat note is writes far. place-kept note.name note.number note.block (fit.places seat note is writes far);
       sent = sent-then;
+      origin = λ seat note is writes far. page-on opening H (e ∷ []) note.name (clip note.valid note.bytes) (fit.origin seat note is writes far);
       out = λ seat push is.
           let w = was-push seat push is in
           let o = fit.out seat w.was w.there in

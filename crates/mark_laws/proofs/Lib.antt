@@ -1,5 +1,6 @@
 pub mod Rows
 pub mod Words
+pub mod Origins
 pub mod PagePlaces
 pub mod FreeBlocks
 pub mod FilesStay
@@ -14,3 +15,4 @@ pub mod Rising
 pub mod Entered
 pub mod Shortened
 pub mod Failing
+pub mod Accounts

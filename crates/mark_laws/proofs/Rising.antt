@@ -53,6 +53,7 @@ module _ (opening : Flat) (H : List Entry) (contents : DiskContents) (notes : No
         drop k note (push_of m k) is writes e
         (subst (λ (y : ℕ). SentFits opening H (mark_row m y block) note (push_of m k)) here.0 (subst (λ (y : ℕ). SentFits opening H (mark_row m note.number y) note (push_of m k)) here.1 (fit.sent k note is writes far))))
         (λ _. fit.sent k note is writes far);
+    origin = fit.origin;
     out = fit.out;
     inside = fit.inside;
     synced = λ k b n d c syn a. by_name (λ (r : MarkRow). ReachesDisk k b r.mark) n d c a

@@ -8,4 +8,6 @@ pub mod CutLaws
 pub mod RaiseLaws
 pub mod EntryLaws
 pub mod FailureLaws
+pub mod HeldBlocks
+pub mod AccountLaws
 pub use Rattle.disk_marks.specs as disk_marks

@@ -14,7 +14,7 @@ use Rattle.disk_marks.specs.declared.marks.MarkRow.{MarkRow}
 use Rattle.disk_marks.specs.declared.marks.Pushing.{Pushing}
 use Rattle.disk_marks.specs.Marks.{MarksSeen, HasRow, unused_row, mark_row, push_of}
 use Rattle.mark_laws.specs.FileLaws.{HaveBlocks}
-use Rattle.mark_laws.specs.Pages.{after_first, bytes_there, page_there, disk_place, HasPage}
+use Rattle.mark_laws.specs.Pages.{after_first, bytes_there, page_there, disk_place, HasPage, ArePageOf}
 use Rattle.mark_laws.specs.Syncs.{entries_in, HasSynced, ReachesDisk}
 
 -- What the disks have by number, wherever they are; none where a disk isn't there or doesn't tell.
@@ -71,8 +71,8 @@ SentFits opening H row note None = IsDropped row
 -- THE MARKS FIT an opening, the history, what the disks have, and the notes. Files had blocks for their pages at the opening; each block of a disk has a row,
 -- an unused one where no page of a file has it. The page of a file that has a place there has a row, whose mark names no entry
 -- that wasn't made; but for a block that is being written, each block has what its row says; and a page that is Blank was zeros. A push of a file's page
--- goes to its place, and sends the page as it was when it began, unless it was taken away; and each push that is kept is out, and its page lies before its
--- file's end. And each Sync that answered reached the disk.
+-- goes to its place, and sends the page as it was when it began, unless it was taken away; what it writes is a page of the history in either case. Each push
+-- that is kept is out, and its page lies before its file's end. And each Sync that answered reached the disk.
 pub record MarksFit (opening : Flat) (H : List Entry) (contents : DiskContents) (notes : Notes) (m : MarksSeen) : Type 0 where
   pub kept : HaveBlocks opening
   pub rows : (disk block : ℕ) → block < block_count (replay opening H).disks disk → HasRow m disk block
@@ -87,6 +87,8 @@ pub record MarksFit (opening : Flat) (H : List Entry) (contents : DiskContents) 
       → disk_place (replay opening H) note.name ≡ Some (note.number, note.block)
   pub sent : (seat : ℕ) (note : Note) → notes seat ≡ Some note → note.writes ≡ true → note.name.object ≢ 64
       → SentFits opening H (mark_row m note.number note.block) note (push_of m seat)
+  pub origin : (seat : ℕ) (note : Note) → notes seat ≡ Some note → note.writes ≡ true → note.name.object ≢ 64
+      → ArePageOf opening H note.name (clip note.valid note.bytes)
   pub out : (seat : ℕ) (push : Pushing) → push_of m seat ≡ Some push → IsOutWith notes seat push
   pub inside : (seat : ℕ) (push : Pushing) → push_of m seat ≡ Some push → 0 < bytes_there (replay opening H) (pushed_page push)
   pub synced : (k b : ℕ) (name : PageName) (disk block : ℕ) → HasSynced opening H k b name → disk_place (replay opening H) name ≡ Some (disk, block)

@@ -1,5 +1,5 @@
 -- Pages of files by flat memory, and what blocks have of them. Public clauses cite this.
-use Rattle.std.specs.Prelude.{◌≡◌, ℕ, Bool, true, List, [], take, Option, Some, option_map, option_and_then, unwrap_or, slice_get}
+use Rattle.std.specs.Prelude.{◌≡◌, ◌<◌, ◌≤◌, length, ℕ, Bool, true, List, [], take, Option, Some, option_map, option_and_then, unwrap_or, slice_get}
 use Rattle.std.specs.Option.{option_map_or}
 use Rattle.flat_model.specs.vm_types.Pages.{bytes_before}
 use Rattle.flat_model.specs.vm_types.declared.call.Entry.{Entry}
@@ -38,3 +38,10 @@ HavePlacesApart F = (a b : PageName) (disk block : ℕ) → disk_place F a ≡ S
 pub record HasPage (F : Flat) (name : PageName) (pushed : Bool) (block : List ℕ) : Type 0 where
   pub same : clip (bytes_there F name) block ≡ page_there F name
   pub rest : pushed ≡ true → block ≡ page_there F name
+
+-- THE BYTES ARE A PAGE of a file as it was after some front of the history, in which it lay before the file's end: all of it, with zeros behind that end.
+pub record ArePageOf (F : Flat) (H : List Entry) (name : PageName) (bytes : List ℕ) : Type 0 where
+  pub entries : ℕ
+  pub made : entries ≤ length H
+  pub inside : 0 < bytes_there (after_first F H entries) name
+  pub same : bytes ≡ page_there (after_first F H entries) name

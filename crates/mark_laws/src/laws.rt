@@ -1,4 +1,5 @@
 //! The laws.
+ghost use Rattle.mark_laws.specs.AccountLaws.{AccountsLaw};
 ghost use Rattle.mark_laws.specs.CutLaws.{CutsLaw};
 ghost use Rattle.mark_laws.specs.EntryLaws.{EntriesLaw};
 ghost use Rattle.mark_laws.specs.FailureLaws.{FailuresLaw};
@@ -40,4 +41,10 @@ pub fn entries_law()
 #[tactic(auto, using(crate::proofs::Failing::failures_rule))]
 pub fn failures_law()
     ensures { FailuresLaw }
+{}
+
+/// Blocks are accounted for as pushes end, and along events.
+#[tactic(auto, using(crate::proofs::Accounts::accounts_rule))]
+pub fn accounts_law()
+    ensures { AccountsLaw }
 {}

@@ -4,4 +4,6 @@
 mod laws;
 
 pub use disk_marks::{DiskMarks, Mark, MarkRow, Pushing};
-pub use laws::{cuts_law, entries_law, failures_law, files_stay_law, marks_law, raises_law};
+pub use laws::{
+    accounts_law, cuts_law, entries_law, failures_law, files_stay_law, marks_law, raises_law,
+};

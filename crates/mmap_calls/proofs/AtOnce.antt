@@ -22,6 +22,7 @@ use Rattle.seg_vn.specs.vm_world.declared.segment.Segment.{Segment}
 use Rattle.seg_vn.proofs.vm_world.SegmentSteps.{segment_rule}
 use Rattle.seg_vn.proofs.seg_ops.Composed.{keeps-same}
 use Rattle.seg_vn.proofs.seg_ops.Modified.{modifies-same}
+use Rattle.seg_vn.proofs.seg_ops.NewlyModified.{only-of}
 use Rattle.seg_vn.specs.Clears.{ChangesSpace, SpaceFits}
 use Rattle.seg_vn.specs.Serves.{IsPlainReply}
 use Rattle.mmap_calls.specs.Answers.{AnswersAtOnce}
@@ -72,7 +73,7 @@ at-once-serves old new pending more p call r same fits done =
       };
       replaced = λ name is. absurd (let z : false ≡ true = is in cc);
       refusal = λ born notes. ap refusal_in (done.due born notes);
-      modified = λ name frame home is. inr (done.modified name frame home is);
+      modified = only-of _ old.world new.world done.modified;
       clean = λ from name is wants. absurd (subst IsPlainReply is done.plain);
     })
 

@@ -82,7 +82,7 @@ module _ (old new : World) (spaces : Spaces) (pending p a len : ℕ) (keeps : Ke
     };
     replaced = none-replaced old new;
     refusal = refusal;
-    modified = λ name frame home is. inr (none name frame home is);
+    modified = record { modified = λ name frame home is. inr (none.modified name frame home is); rewritten = λ name frame home is. inr (none.rewritten name frame home is) };
     clean = clean;
   }
 

@@ -2,7 +2,7 @@
 #![tactic(auto)]
 
 ghost use Rattle.std.specs.Prelude.{◌≡◌, ◌+◌, ◌-◌, ◌^◌, ◌<◌, true, false, Some, None, IsSome, IfOk, nat_lt, length, replicate, slice_set};
-ghost use Rattle.page_lock.specs.Rows.{row_at, clear_row, with_bits};
+ghost use Rattle.page_lock.specs.Rows.{row_at, clear_row, with_bits, with_bits_added, with_use};
 
 use filled::filled;
 use std::alloc::{AllocError, Global};
@@ -171,6 +171,28 @@ impl PageLocks {
         let row = &mut self.rows[frame as usize];
         row.referenced = referenced;
         row.modified = modified;
+        row.rewritten = row.rewritten || modified;
+    }
+
+    /// Sets the bit of use of the frame to this, and no other.
+    pub fn set_used(&mut self, frame: u32, referenced: bool)
+        requires { frame < length self.old }
+        ensures { self.new ≡ slice_set self.old frame (with_use
+            (row_at self.old frame) referenced) }
+    {
+        let row = &mut self.rows[frame as usize];
+        row.referenced = referenced;
+    }
+
+    /// Adds bits that were told of the frame's translations: only where these say that the page was written does it count as rewritten.
+    pub fn add_bits(&mut self, frame: u32, referenced: bool, modified: bool)
+        requires { frame < length self.old }
+        ensures { self.new ≡ slice_set self.old frame (with_bits_added
+            (row_at self.old frame) referenced modified) }
+    {
+        let row = &mut self.rows[frame as usize];
+        row.referenced = row.referenced || referenced;
+        row.modified = row.modified || modified;
         row.rewritten = row.rewritten || modified;
     }
 

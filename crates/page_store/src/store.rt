@@ -5,7 +5,7 @@ ghost use Rattle.core_arena.specs.Bytes.{bytes_at};
 ghost use Rattle.page_clock.specs.Clock.{next_pick, next_clock, place_of};
 ghost use Rattle.page_hash.specs.Names.{name_at, find};
 ghost use Rattle.page_hash.specs.declared.PageName.{PageName};
-ghost use Rattle.page_lock.specs.Rows.{row_at, with_bits};
+ghost use Rattle.page_lock.specs.Rows.{row_at, with_bits, with_bits_added, with_use};
 ghost use Rattle.page_store.specs.Bays.{bay_at, home, missing, home_faults};
 ghost use Rattle.page_store.specs.Laws.{StaysInPlace};
 ghost use Rattle.page_store.specs.Moves.{is_only};
@@ -207,6 +207,26 @@ impl<D: Disk> Store<D> {
         ensures laws { StaysInPlace self.old self.new (is_only (Some frame)) }
     {
         self.locks.set_bits(frame, referenced, modified);
+    }
+
+    /// Sets the bit of use of a frame to this, and no other.
+    pub fn set_used(&mut self, frame: u32, referenced: bool)
+        requires { frame < length self.old.frames }
+        ensures new { self.new ≡ with_row self.old frame (with_use
+            (row_at self.old.rows frame) referenced) }
+        ensures laws { StaysInPlace self.old self.new (is_only (Some frame)) }
+    {
+        self.locks.set_used(frame, referenced);
+    }
+
+    /// Adds bits that were told of a frame's translations: only where these say so the page counts as rewritten.
+    pub fn add_bits(&mut self, frame: u32, referenced: bool, modified: bool)
+        requires { frame < length self.old.frames }
+        ensures new { self.new ≡ with_row self.old frame (with_bits_added
+            (row_at self.old.rows frame) referenced modified) }
+        ensures laws { StaysInPlace self.old self.new (is_only (Some frame)) }
+    {
+        self.locks.add_bits(frame, referenced, modified);
     }
 
     /// The next hand of the clock and its frame, as `Clock::step`.

@@ -46,8 +46,8 @@ one-round s t u v call plan frames rounds still goes event needs makes none =
     let before = stays-still s t goes.none.event still in
     let then-still = stays-still t u event before in
     let few = goes.few in
-    elim (round-falls then-still.0 t u 0 call plan (at-rest u then-still) before.2.memory.frames.sound needs makes.mid v makes.flight makes.sends makes.comes goes.most goes.comes) [
-      | inl lost ↦ absurd (let z : false ≡ true = ap is_some (makes.tells ∙ ap (error_at_end makes.comes.back) lost) in cc)
+    elim (round-falls then-still.0 t u 0 call plan (at-rest u then-still) before.2.memory.frames.sound needs makes.mid v makes.flight makes.sends makes.lands.comes goes.most goes.comes) [
+      | inl lost ↦ absurd (let z : false ≡ true = ap is_some (makes.lands.tells ∙ ap (error_at_end makes.lands.comes.back) lost) in cc)
       | inr less ↦ (let fewer = less.2 in record { none = none; most = less.0; comes = less.1; few = omega (arith, few, fewer) })
     ]
 

@@ -3,13 +3,13 @@ ghost use Rattle.std.specs.Prelude.{◌≡◌, ◌<◌, ℕ, length, Some, None,
 ghost use Rattle.vm_core.specs.fault_entry.Accesses.{IsAccess};
 ghost use Rattle.vm_core.specs.kernel_close.Finish.{FitsStill};
 ghost use Rattle.vm_core.specs.Fits.{FitsAt};
-ghost use Rattle.vm_core.specs.Flights.{EndsWith};
+ghost use Rattle.vm_core.specs.SeatSteps.{LandsFlight, sent_along};
 ghost use Rattle.vm_core.specs.Calls.{TakesMemory};
-ghost use Rattle.vm_core.specs.page_store.Flight.{fresh};
+ghost use Rattle.vm_core.specs.page_store.Flight.{fresh, note_of};
 ghost use Rattle.vm_core.specs.vm_world.Events.{IsEvent};
 ghost use Rattle.vm_kernel.specs.Turns.{MayCall};
 ghost use Rattle.plan_runs.specs.Lines.{alone_caller, alone_kernel, AreOfOne, HasOneMore, GrowsWith};
-ghost use Rattle.plan_runs.specs.Transfers.{MakesTransfer, IsBroughtHome, sent_along};
+ghost use Rattle.plan_runs.specs.Transfers.{MakesTransfer};
 
 use std::alloc::AllocError;
 use vm_core::{Answer, Attempt, Flight, Plan, VmState};
@@ -28,9 +28,7 @@ fn bring_home<D: Disk>(
         (option_map (λ (c : ℕ × _). (c.0, c.1.now)) of))) }
     ensures event { IsEvent 0 state.old (Some (sent_along flight
         (option_map (λ (c : ℕ × _). (c.0, c.1.now)) of.entry))) state.new None }
-    ensures entry { EndsWith state.old state.new
-        (option_map (λ (c : ℕ × _). (c.0, c.1.now)) of.entry) result }
-    ensures comes { IsBroughtHome state.old state.new flight
+    ensures lands { LandsFlight state.old state.new 0 (note_of flight)
         (option_map (λ (c : ℕ × _). (c.0, c.1.now)) of.entry) result }
 {
     let _ = flight.perform();

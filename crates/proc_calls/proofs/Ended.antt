@@ -122,7 +122,7 @@ exit-serves old new pending p fits done modified = record {
   };
   replaced = λ name is. absurd (let z : false ≡ true = is in cc);
   refusal = λ born notes. refl;
-  modified = λ name frame home is. inr (modified name frame home is);
+  modified = record { modified = λ name frame home is. inr (modified.modified name frame home is); rewritten = λ name frame home is. inr (modified.rewritten name frame home is) };
   clean = λ from name is wants. absurd wants;
 }
 

@@ -1,4 +1,4 @@
-//! A rack whose disks wait for each other: a transfer tells that it has begun, and ends only once another one has begun.
+//! A rack whose disks wait for each other: a transfer tells that it has begun, and ends only once another one has begun. Others are slow.
 ghost use Rattle.std.specs.Prelude.{◌≡◌};
 
 use block_device::{Disk, Failed, MemDisk, MemRack, Rack, RackFault, Spec};
@@ -6,6 +6,9 @@ use std::sync::atomic::{AtomicU64, Ordering};
 
 /// How often is looked for what is waited for, before whoever waits goes on without it.
 const LOOKS: u32 = 100_000_000;
+
+/// How often a write that is held looks on, so that whoever finds its disk out has come to rest.
+const LINGER: u32 = 10_000_000;
 
 /// Something that begins once, on one thread, and is waited for on another.
 #[derive(Drop)]
@@ -24,9 +27,9 @@ impl Event {
         self.begun.store(1, Ordering::SeqCst);
     }
 
-    // Looks until it has begun. False where it hasn't after all looks.
-    fn wait(&self) -> bool {
-        for _look in 0..LOOKS {
+    // Looks until it has begun. False where it hasn't after so many looks.
+    fn wait(&self, looks: u32) -> bool {
+        for _look in 0..looks {
             if self.begun.load(Ordering::SeqCst) != 0 {
                 return true;
             }
@@ -35,12 +38,28 @@ impl Event {
     }
 }
 
-/// What a disk's first read of block 1 tells, and what it waits for; or what its first write tells.
+/// What a disk's first read of block 1 tells, and what it waits for; or what its first write tells, or the first one behind a read of
+/// block 1, and what that waits for, and some looks longer; or how often each read looks for what never begins.
 #[derive(Clone, Copy)]
 pub(crate) enum Gate<'a> {
     Open,
-    Read { begun: &'a Event, until: &'a Event },
-    Write { begun: &'a Event },
+    Read {
+        begun: &'a Event,
+        until: &'a Event,
+    },
+    Write {
+        begun: &'a Event,
+    },
+    Held {
+        was_read: bool,
+        begun: &'a Event,
+        until: &'a Event,
+        never: &'a Event,
+    },
+    Slow {
+        never: &'a Event,
+        looks: u32,
+    },
 }
 
 /// A disk in memory with a gate, until its transfer has come.
@@ -56,21 +75,52 @@ impl<'a> GatedDisk<'a> {
     fn reads(&mut self, block: u32)
         ensures { self.new.disk ≡ self.old.disk }
     {
-        if let Gate::Read { begun, until } = self.gate {
-            if block == 1 {
+        match self.gate {
+            Gate::Read { begun, until } if block == 1 => {
                 self.gate = Gate::Open;
                 begun.tell();
-                self.was_late = !until.wait();
+                self.was_late = !until.wait(LOOKS);
             }
+            Gate::Held {
+                begun,
+                until,
+                never,
+                ..
+            } if block == 1 => {
+                self.gate = Gate::Held {
+                    was_read: true,
+                    begun,
+                    until,
+                    never,
+                };
+            }
+            Gate::Slow { never, looks } => {
+                never.wait(looks);
+            }
+            _ => {}
         }
     }
 
     fn writes(&mut self)
         ensures { self.new.disk ≡ self.old.disk }
     {
-        if let Gate::Write { begun } = self.gate {
-            self.gate = Gate::Open;
-            begun.tell();
+        match self.gate {
+            Gate::Write { begun } => {
+                self.gate = Gate::Open;
+                begun.tell();
+            }
+            Gate::Held {
+                was_read,
+                begun,
+                until,
+                never,
+            } if was_read => {
+                self.gate = Gate::Open;
+                begun.tell();
+                self.was_late = !until.wait(LOOKS);
+                never.wait(LINGER);
+            }
+            _ => {}
         }
     }
 }

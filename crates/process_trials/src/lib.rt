@@ -11,3 +11,5 @@ mod gated_rack;
 mod overlap_tests;
 #[cfg(test)]
 mod tree_tests;
+#[cfg(test)]
+mod waiting_tests;

@@ -63,7 +63,7 @@ fn was_late(outcome: &Outcome<GatedDisk<'_>>) -> bool {
 }
 
 // How a run over a rack of these gates ended, whether a transfer of it was late, and what it printed. The other disk's number is given.
-fn run_gated(
+pub(crate) fn run_gated(
     rt: &(impl Threads + Wait + Sync),
     alloc: Global,
     words: &str,
@@ -117,6 +117,51 @@ fn a_push_of_the_daemon_begins_during_a_read(rt: HostRuntime) -> Result<(), Fail
     )?;
     assert_eq!(rt; (status, late), (0, false));
     assert_eq!(rt; text.as_slice(), PUSHED_REPORT);
+    Ok(())
+}
+
+// A process stores into a page of a file, loads from one on another disk, and then from another page of the first.
+fn held_script(alloc: Global) -> Result<String, AllocError> {
+    let mut script = String::from_str(
+        alloc,
+        "frames 8\ndisk 0 blank 8\ndisk 1 blank 8\nfile a rw 0 2 ",
+    )?;
+    for _byte in 0..4097 {
+        script.push_str("41")?;
+    }
+    script.push_str(
+        "\nfile b rw 1 1 42\nprocess\nmap 0x2000 8192 rw shared a 0\nmap 0x8000 4096 r shared b 0\nstore 0x2000 1 0x07\nload 0x8000 1\nload 0x3000 1\nend\n",
+    )?;
+    Ok(script)
+}
+
+// The daemon's push of the stored page is held until the process has read from the other disk, and long enough for it to find the first disk out and to
+// rest. Nobody else is there who would wake it then: so the run ends only where the end of the push does.
+#[test]
+fn who_waits_for_a_disk_of_the_daemon_is_woken(rt: HostRuntime) -> Result<(), Fail> {
+    let (one, two, never) = (Event::new(), Event::new(), Event::new());
+    let first = Gate::Held {
+        was_read: false,
+        begun: &one,
+        until: &two,
+        never: &never,
+    };
+    let second = Gate::Read {
+        begun: &two,
+        until: &one,
+    };
+    let script = held_script(rt.alloc())?;
+    let (status, late, text) = run_gated(
+        &rt,
+        rt.alloc(),
+        "--pageout\n1000000",
+        script.as_bytes(),
+        (first, 1, second),
+    )?;
+    assert_eq!(rt; (status, late), (0, false));
+    let told: &[u8] =
+        b"process 1\n7 map 0x00002000\n8 map 0x00008000\n9 store ok\n10 load 0x42\n11 load 0x41\n12 exit ok\nfile a 4097\n";
+    assert!(rt; text.starts_with(told));
     Ok(())
 }
 

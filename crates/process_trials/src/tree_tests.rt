@@ -271,7 +271,7 @@ fn each_of_60_processes_is_the_next_ones_parent(rt: HostRuntime) -> Result<(), F
 }
 
 // Appends a text so many times.
-fn repeat(text: &mut String, times: u32, what: &str) -> Result<(), AllocError> {
+pub(crate) fn repeat(text: &mut String, times: u32, what: &str) -> Result<(), AllocError> {
     for _ in 0..times {
         text.push_str(what)?;
     }

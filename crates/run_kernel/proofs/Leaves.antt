@@ -16,11 +16,10 @@ use Rattle.vm_core.specs.vm_world.State.{KernelState}
 use Rattle.vm_core.specs.vm_world.StateFits.{StateFits}
 use Rattle.run_kernel.specs.Played.{HasPlayed, IsStarted, KernelLeaves, LeftSeen}
 use Rattle.volume_files.specs.stored_files.Written.{HaveDisks}
-use Rattle.run_kernel.proofs.BlocksLeft.{fronts-left, places-left}
 use Rattle.run_kernel.proofs.FileBytesLeft.{stored-left}
 use Rattle.run_kernel.proofs.FileRecords.{extents-left, infos-left, legal-left, lie-left, modes-left}
-use Rattle.run_kernel.proofs.Returned.{Closes, all-tell, counts-left, disks-left, fault-left, have-left, reached-left, swap-count, swap-left}
-use Rattle.run_kernel.proofs.UnkeptLeft.{unkept-left}
+use Rattle.run_kernel.proofs.HeldLeft.{first-left, held-left, places-left}
+use Rattle.run_kernel.proofs.Returned.{Closes, counts-left, disks-left, fault-left, have-left, reached-left, swap-count, swap-left}
 
 pub played-still : (plan : PlanSeen) (F : Flat) (disks : List (ℕ × DiskSeen)) (swap : Option DiskSeen) (files : FilesSeen) (s t : KernelState) (whole : Bool) → IsStarted plan F disks swap files s
     → HasPlayed plan s t whole → FitsStill t
@@ -47,9 +46,9 @@ is-left plan F disks swap files s t whole l st played c =
       extents = extents-left F s t l since before c;
       infos = infos-left F s t l since before c (since.follows F st.follows);
       stored = stored-left F s t l since before c;
-      fronts = λ told. fronts-left F s t l since before c told t.marks (after.marks (all-tell F s t l since before c told)) after.failures;
-      unkept = unkept-left F s t l since before c;
-      places = λ told. places-left F s t l since before c told t.marks (after.marks (all-tell F s t l since before c told)) after.failures;
+      first = λ told. first-left F s t l since before c told;
+      held = λ told. held-left F s t l since before c told st.opening;
+      places = places-left F s t l since before c;
       fault = fault-left F s t l since before c;
       counts = counts-left F s t l since before c;
       swapped = swap-count F s t l since before c;

@@ -8,7 +8,5 @@ pub mod StartedFlat
 pub mod StartRules
 pub mod Starts
 pub mod StartedFiles
-pub mod Fronts
-pub mod BlocksLeft
-pub mod UnkeptLeft
+pub mod HeldLeft
 pub mod Leaves

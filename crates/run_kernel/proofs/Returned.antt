@@ -36,6 +36,7 @@ use Rattle.vm_core.proofs.vm_world.FlatWhole.{some-inj}
 use Rattle.vm_core.proofs.vm_world.Told.{event_law}
 use Rattle.vm_core.specs.kernel_close.Closing.{AreDisksOf}
 use Rattle.vm_core.specs.kernel_close.Finish.{disk_at, disks_of, HoldAllFiles, IsLastFault, LeaveAllPages, KeepsDisk, KeepDisks, KeepsOtherBlocks, KeepRecords}
+use Rattle.vm_core.specs.kernel_close.LeftMarks.{LeavesMarks}
 use Rattle.vm_core.proofs.kernel_close.Fills.{are-kept, number-of}
 use Rattle.vm_core.proofs.kernel_close.Finishes.{still, disk-in-order, are-disks}
 use Rattle.volume_files.specs.Attached.{bare_disks}
@@ -51,6 +52,7 @@ pub record Closes (t : KernelState) (l : LeftSeen) : Type 0 where
   pub closed : IfNone l.fault (AllTell t.memory.world no_notes → HoldAllFiles t.memory.world l.disks)
   pub fault : IfSome l.fault (IsLastFault (disks_of t.memory.world) l.disks)
   pub left : IfSome l.fault (λ fault. AllTell t.memory.world no_notes → LeaveAllPages t.memory.world (disks_of t.memory.world) l.disks fault.disk)
+  pub marks : (F : Flat) → StateFits F t no_seats → AllTell t.memory.world no_notes → LeavesMarks F t l.disks l.fault
   pub disks : KeepDisks t.memory.world.files (disks_of t.memory.world) l.disks
   pub swap : MatchOption l.swap (bay_at t.memory.world.store.bays 8 ≡ missing) (λ disk. bay_at t.memory.world.store.bays 8 ≡ home disk)
   pub files : KeepRecords t.memory.world.files l.files

@@ -20,16 +20,16 @@ use Rattle.volume_files.specs.vm_script.Processes.{kernel_parents}
 use Rattle.volume_files.specs.vm_script.Told.{Told, ToldFront, own_lines}
 use Rattle.volume_files.specs.flat_model.Shapes.{RefusesAsDue}
 use Rattle.vm_core.specs.vm_world.DiskPlaces.{disk_fixed, seen_in}
-use Rattle.vm_core.specs.vm_world.Events.{FollowsHistory, IsSince, IsUnkept}
+use Rattle.vm_core.specs.vm_world.Events.{FollowsHistory, IsSince}
 use Rattle.vm_core.specs.vm_world.Opening.{IsOpening, no_seats}
 use Rattle.vm_core.specs.vm_world.State.{KernelState, room_of, mode_of}
 use Rattle.vm_core.specs.vm_world.StateFits.{StateFits}
 use Rattle.vm_kernel.specs.declared.starting.Room.{Room}
+use Rattle.vm_core.specs.vm_world.mark_laws.HeldBlocks.{HoldsHistory}
 use Rattle.vm_core.specs.vm_world.mark_laws.Pages.{disk_place}
-use Rattle.run_outcome.specs.OnDisks.{HoldFronts}
 use Rattle.volume_files.specs.Attached.{bare_disks}
 use Rattle.volume_files.specs.stored_files.Closed.{StoreFiles, infos_in_flat, flat_bytes}
-use Rattle.volume_files.specs.Handed.{HaveTold, block_told}
+use Rattle.volume_files.specs.Handed.{HaveTold}
 use Rattle.volume_files.specs.stored_files.Written.{infos_made, LieWell, HaveDisks, HaveExtents, HasLastFault, disk_fault_counts}
 use Rattle.vm_core.specs.page_store.Notes.{no_notes}
 use Rattle.volume_files.specs.vm_script.Rules.{amounts_of}
@@ -100,11 +100,17 @@ pub record DisksCameBack (old new : List (ℕ × DiskSeen)) : Type 0 where
 abbrev pub SwapCameBack : BaySeen → Option DiskSeen → Type 0
 SwapCameBack old new = option_map disk_fixed new ≡ seen_in disk_fixed old no_notes
 
--- Each disk has what it had in the blocks that no file keeps for a page.
-abbrev pub HaveUnkept : Flat → List (ℕ × DiskSeen) → List (ℕ × DiskSeen) → Type 0
-HaveUnkept F old new =
-    (i : ℕ) (d e : ℕ × DiskSeen) → slice_get old i ≡ Some d → slice_get new i ≡ Some e → (block : ℕ) → IsUnkept F e.0 block
-    → block_told e.1.content block ≡ block_told d.1.content block
+-- Each disk holds the history, where it told and tells.
+abbrev pub HoldTheHistory : Flat → List Entry → List (ℕ × DiskSeen) → List (ℕ × DiskSeen) → Type 0
+HoldTheHistory F H old new =
+    (i : ℕ) (d e : ℕ × DiskSeen) (given now : List (List ℕ)) → slice_get old i ≡ Some d → slice_get new i ≡ Some e
+    → d.1.content ≡ Some given → e.1.content ≡ Some now → HoldsHistory F H e.0 e.1.faults given now
+
+-- Each disk has the block 0 that it had.
+abbrev pub KeepFirstBlocks : List (ℕ × DiskSeen) → List (ℕ × DiskSeen) → Type 0
+KeepFirstBlocks old new =
+    (i : ℕ) (d e : ℕ × DiskSeen) (given now : List (List ℕ)) → slice_get old i ≡ Some d → slice_get new i ≡ Some e
+    → d.1.content ≡ Some given → e.1.content ≡ Some now → slice_index_or now 0 [] ≡ slice_index_or given 0 []
 
 -- A fault that ended the closing: that of the last transfer of a disk, which had counted no fewer faults than the history tells.
 pub record IsClosingFault (l : LeftSeen) (f : DiskFault) : Type 0 where
@@ -129,8 +135,8 @@ pub record KernelLeaves (F : Flat) (s : KernelState) (l : LeftSeen) : Type 0 whe
   pub extents : HaveExtents (infos_made l.files)
   pub infos : infos_made l.files ≡ infos_in_flat (map (λ (v : VnodeSeen). v.info.name) l.files.files) (replay F l.history.entries).files
   pub stored : IfNone l.fault (HaveTold (bare_disks l.disks) l.swap → StoreFiles l.disks (infos_made l.files) (flat_bytes (replay F l.history.entries).files))
-  pub fronts : HaveTold (bare_disks l.disks) l.swap → HoldFronts F l.history.entries l.disks
-  pub unkept : HaveTold (bare_disks l.disks) l.swap → HaveUnkept (replay F l.history.entries) (disks_of s.memory.world) l.disks
+  pub first : HaveTold (bare_disks l.disks) l.swap → KeepFirstBlocks (disks_of s.memory.world) l.disks
+  pub held : HaveTold (bare_disks l.disks) l.swap → HoldTheHistory F l.history.entries (disks_of s.memory.world) l.disks
   pub places : HaveTold (bare_disks l.disks) l.swap → (name : PageName) (disk block : ℕ) → disk_place (replay F l.history.entries) name ≡ Some (disk, block) → 1 ≤ block
   pub fault : IfSome l.fault (IsClosingFault l)
   pub counts : (i : ℕ) (d : ℕ × DiskSeen) → slice_get l.disks i ≡ Some d → (count : ℕ) × (slice_index_or l.history.faults d.0 None ≡ Some count) × (count ≤ d.1.faults)

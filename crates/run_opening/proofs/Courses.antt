@@ -2,8 +2,8 @@
 use Rattle.vm_core.specs.kernel_close.Finish.{disks_of}
 use Rattle.run_kernel.proofs.StartedFlat.{infos-fresh as made-infos}
 use Rattle.volume_files.proofs.FileLineLemmas.{names-made as names-fresh}
-use Rattle.std.proofs.Common.{◌≡◌, ℕ, zero, suc, ◌≤◌, ◌<◌, ◌==◌, Bool, true, false, List, [], ◌∷◌, length, map, refl, sym, ap, ◌∙◌, subst, arith, inl, inr}
-use Rattle.std.specs.Prelude.{All, IfNone, IfSome, IsSome, IsSomeAnd, Ok, Option, Some, None, slice_get, slice_index_or, zip, if◌then◌else◌}
+use Rattle.std.proofs.Common.{◌≡◌, ◌≢◌, ◌⊎◌, ℕ, zero, suc, ◌≤◌, ◌<◌, ◌==◌, Bool, true, false, List, [], ◌∷◌, length, map, refl, sym, ap, ◌∙◌, subst, arith, inl, inr}
+use Rattle.std.specs.Prelude.{All, IfNone, IfSome, IsSome, IsSomeAnd, Ok, Option, Some, None, is_some, slice_get, slice_index_or, zip, if◌then◌else◌}
 use Rattle.std.specs.Map.{lookup}
 use Rattle.std.proofs.lemmas.Bool.{false≢true, ne_eqb}
 use Rattle.std.proofs.lemmas.Bool.Decides.{eqb_tells}
@@ -31,25 +31,26 @@ use Rattle.printed_traces.proofs.RunsTold.{run-stands}
 use Rattle.vm_core.specs.vm_world.State.{KernelState, FileMode, mode_of}
 use Rattle.run_endings.specs.declared.fault.RunFault.{RunFault}
 use Rattle.run_input.specs.Asked.{Given, Asked}
-use Rattle.volume_files.specs.Attached.{AttachedSeen, FileDisksTell, bare_disks}
+use Rattle.volume_files.specs.Attached.{AttachedSeen, FileDisksTell, IsFilledBy, bare_disks}
 use Rattle.volume_files.specs.stored_files.Closed.{SayTables, StoreFiles, flat_bytes, info_at, infos_in_flat, mode_in, modes_in, stored_bytes}
 use Rattle.run_opening.specs.Ready.{IsReady}
 use Rattle.run_outcome.specs.Ended.{End, HasLateCause, CountsReach, HasCountsOf}
-use Rattle.vm_core.specs.vm_world.Events.{IsUnkept}
 use Rattle.volume_files.proofs.DiskCounts.{counts-kinds, kinds-written}
 use Rattle.volume_files.specs.Handed.{kinds_of, HaveTold, HandsAll, HasSpecSize, block_told, volume_numbers, disk_handed, volumes_of, sizes_of}
-use Rattle.volume_files.specs.Opened.{IsVolumeAttached, OpenedFile, infos_of, names_of, opening_flat, setup_volumes, volume_number}
-use Rattle.run_outcome.specs.OnDisks.{AreUnkeptGiven, HoldFronts}
+use Rattle.volume_files.specs.Opened.{IsVolumeAttached, OpenedFile, infos_of, line_files_of, names_of, opening_flat, setup_volumes, volume_number}
+use Rattle.vm_core.specs.page_hash.declared.PageName.{PageName}
+use Rattle.vm_core.specs.vm_world.mark_laws.HeldBlocks.{HoldsHistory}
+use Rattle.vm_core.specs.vm_world.mark_laws.Pages.{bytes_there, disk_place, page_there}
+use Rattle.vm_core.proofs.mark_laws.Accounts.{places-on}
 use Rattle.run_kernel.specs.Played.{IsStarted, KernelLeaves, LeftSeen, IsDiskOf}
 use Rattle.volume_files.specs.stored_files.Written.{infos_made, AreFilesBytes, HaveDisks, KeepsBlocks, WriteTables, WroteTablesAt, WroteTablesTo, disk_sizes}
 use Rattle.run_outcome.specs.Run.{AreClosedBytes, AreOpenedBytes, Begun, ClosesFiles, LeavesFiles, DisksTell, IsOpened, WroteNoTable, WroteTablesAlone, WroteTablesBelow, flat_opened, flat_closed}
 use Rattle.volume_files.proofs.DiskLists.{at-map, in-map, mate, number, to-all, zip-back, sizes-by, sizes-written, low-disks, lookup-at}
 use Rattle.run_input.proofs.AskedRules.{asked-rules}
 use Rattle.run_opening.proofs.KeptBytes.{stored-kept}
-use Rattle.run_opening.proofs.KeptFronts.{fronts-kept}
-use Rattle.run_opening.proofs.KeptUnkept.{told-kept}
+use Rattle.run_opening.proofs.HeldDisks.{HasKeptPage, held-through, opening-page}
 use Rattle.run_opening.proofs.RisingNumbers.{lower-before, same-place}
-use Rattle.run_opening.proofs.SparedLines.{lines-spare}
+use Rattle.run_opening.proofs.FilledLines.{line-filled}
 use Rattle.run_kernel.proofs.Returned.{swap-serves-still}
 use Rattle.volume_files.proofs.GivenFiles.{comes-sizes}
 
@@ -66,6 +67,11 @@ told-before old new k some = by old.content refl
     by : (content : Option (List (List ℕ))) → old.content ≡ content → IsSome old.content
     by None is = absurd (false≢true (subst IsSome (k.untold is) some))
     by (Some blocks) is = subst IsSome (sym is) refl
+
+-- what a disk that tells has
+told-blocks : (content : Option (List (List ℕ))) → IsSome content → (blocks : List (List ℕ)) × (content ≡ Some blocks)
+told-blocks None some = absurd (false≢true some)
+told-blocks (Some blocks) some = (blocks, refl)
 
 -- where all disks tell, those of files do
 pub files-told : (infos : List FileInfo) (disks : List (ℕ × DiskSeen)) → All (λ (d : DiskSeen). IsSome d.content) (bare_disks disks) → FileDisksTell infos disks
@@ -224,13 +230,6 @@ module _ (st : ℕ) (ft : Option RunFault) (g : Given) (what : Asked) (files : L
       subst (λ (z : List (ℕ × ℕ)). IsTextFor (printed_text what.plan z files bytes l.history.entries) (opening_flat what.plan z files) l.history.entries) (sym sizes-new)
       (run-stands what.plan g.holds files a made l.history.entries bytes ran (record { lengths = ready.read.lengths; told = ready.read.told (disks-told t) }))
 
-  -- what its blocks hold
-  fronts : DisksTell ended → HoldFronts (flat_opened what files (bare_disks new)) l.history.entries new
-  fronts t =
-      let told = told-left t in
-      subst (λ (F : Flat). HoldFronts F l.history.entries new) flat-same
-      (fronts-kept (opening_flat plan (disk_sizes a.disks) files) l.history.entries l.disks new w (left.places told) (left.fronts told))
-
   -- the number of a disk, and that nothing else is in its place
   numbers-of-left : map number l.disks ≡ volume_numbers what.plan
   numbers-of-left = left.disks.numbers ∙ ap (map number) started.racked ∙ ready.placed.numbers
@@ -238,59 +237,116 @@ module _ (st : ℕ) (ft : Option RunFault) (g : Given) (what : Asked) (files : L
   number-at : (i : ℕ) (s : VolumeSpec) (d : ℕ × DiskSeen) → slice_get (setup_volumes what.plan.setup) i ≡ Some s → slice_get l.disks i ≡ Some d → d.0 ≡ volume_number s
   number-at i sp d si di = same_Some d.0 (volume_number sp) (sym (at-map number l.disks i d di) ∙ ap (λ (ns : List ℕ). slice_get ns i) numbers-of-left ∙ at-map volume_number (setup_volumes what.plan.setup) i sp si)
 
-  abbrev closed-flat : Flat
-  closed-flat = replay (opening_flat plan (disk_sizes a.disks) files) l.history.entries
-
-  -- a block that no file keeps is as the rack gave it, where it is as the kernel left it
-  given-at : DisksTell ended → (i : ℕ) (sp : VolumeSpec) (d : DiskSeen) → slice_get (setup_volumes what.plan.setup) i ≡ Some sp → slice_get (bare_disks new) i ≡ Some d
-      → (was : DiskSeen) × IsVolumeAttached g.holds sp was
-      × ((block : ℕ) → IsUnkept closed-flat (volume_number sp) block → ((y : ℕ × DiskSeen) → slice_get l.disks i ≡ Some y → block_told d.content block ≡ block_told y.1.content block)
-      → block_told d.content block ≡ block_told was.content block)
-  given-at t i sp d si di =
-      let x = in-map (λ (p : ℕ × DiskSeen). p.1) new i d di in
-      let y = mate new l.disks (sym w.numbers) i x.0 x.1 in
-      let z = mate l.disks a.disks (sym (left.disks.numbers ∙ ap (map number) started.racked)) i y.0 y.1 in
-      let given = ready.placed.written.each i sp z.0.1 si (at-map (λ (p : ℕ × DiskSeen). p.1) a.disks i z.0 z.1) in (
-        given.0,
-        given.1,
-        λ block none same.
-            same y.0 y.1
-            ∙ left.unkept (told-left t) i z.0 y.0 (ap (λ (ds : List (ℕ × DiskSeen)). slice_get ds i) started.racked ∙ z.1) y.1 block
-            (subst (λ (n : ℕ). IsUnkept closed-flat n block) (sym (number-at i sp y.0 si y.1)) none)
-            ∙ given.2 block (lines-spare what.plan g.holds files a made ready.placed plan (disk_sizes a.disks) l.history.entries (volume_number sp) block none),
-      )
-
   low-volume : (i : ℕ) (sp : VolumeSpec) (d : DiskSeen) → slice_get (setup_volumes what.plan.setup) i ≡ Some sp → slice_get (bare_disks new) i ≡ Some d → volume_number sp < 8
   low-volume i sp d si di =
       let x = in-map (λ (p : ℕ × DiskSeen). p.1) new i d di in
       let y = mate new l.disks (sym w.numbers) i x.0 x.1 in
       subst (λ (n : ℕ). n < 8) (number-at i sp y.0 si y.1) (low-disks what.plan l.disks numbers-of-left i y.0 y.1)
 
-  -- what its blocks that no file keeps hold
-  unkept : DisksTell ended → AreUnkeptGiven what.plan g.holds (flat_opened what files (bare_disks new)) l.history.entries (bare_disks new)
-  unkept t i sp d si di =
-      let x = in-map (λ (p : ℕ × DiskSeen). p.1) new i d di in
-      let given = given-at t i sp d si di in (
-        given.0,
-        given.1,
-        λ block none.
-            given.2 block (subst (λ (F : Flat). IsUnkept (replay F l.history.entries) (volume_number sp) block) (sym flat-same) (low-volume i sp d si di, none.1))
-            (λ y at. ap (λ (q : DiskSeen). block_told q.content block) (sym x.2) ∙ told-kept y.1 x.0.1 block (w.each i y x.0 at x.1) none.0),
-      )
+  abbrev start-flat : Flat
+  start-flat = opening_flat plan (disk_sizes a.disks) files
 
-  -- block 0 of a disk, which no file keeps
-  first-unkept : DisksTell ended → (i : ℕ) (sp : VolumeSpec) (d : DiskSeen) → slice_get (setup_volumes what.plan.setup) i ≡ Some sp → slice_get (bare_disks new) i ≡ Some d
-      → IsUnkept closed-flat (volume_number sp) 0
-  first-unkept t i sp d si di = (low-volume i sp d si di, λ name at. let past = left.places (told-left t) name (volume_number sp) 0 at in omega (arith, past))
+  -- A DISK as it is handed back, as it was closed, as it was started, and as the rack gave it
+  module _ (t : DisksTell ended) (i : ℕ) (sp : VolumeSpec) (d : DiskSeen) (si : slice_get (setup_volumes what.plan.setup) i ≡ Some sp) (di : slice_get (bare_disks new) i ≡ Some d) where
+    back : (x : ℕ × DiskSeen) × (slice_get new i ≡ Some x) × (x.1 ≡ d)
+    back = in-map (λ (p : ℕ × DiskSeen). p.1) new i d di
+
+    closed : (y : ℕ × DiskSeen) × (slice_get l.disks i ≡ Some y) × (y.0 ≡ back.0.0)
+    closed = mate new l.disks (sym w.numbers) i back.0 back.1
+
+    begun-as : (z : ℕ × DiskSeen) × (slice_get a.disks i ≡ Some z) × (z.0 ≡ closed.0.0)
+    begun-as = mate l.disks a.disks (sym (left.disks.numbers ∙ ap (map number) started.racked)) i closed.0 closed.1
+
+    racked : slice_get (disks_of s.memory.world) i ≡ Some begun-as.0
+    racked = ap (λ (ds : List (ℕ × DiskSeen)). slice_get ds i) started.racked ∙ begun-as.1
+
+    given : (was : DiskSeen) × IsVolumeAttached g.holds sp was × IsFilledBy (line_files_of ready.placed.given.found files) (volume_number sp) was begun-as.0.1
+    given = ready.placed.filled i sp begun-as.0.1 si (at-map (λ (p : ℕ × DiskSeen). p.1) a.disks i begun-as.0 begun-as.1)
+
+    now-told : (blocks : List (List ℕ)) × (d.content ≡ Some blocks)
+    now-told = told-blocks d.content (All-slice_get (λ (e : DiskSeen). IsSome e.content) (bare_disks new) i d t.each di)
+
+    closed-told : (blocks : List (List ℕ)) × (closed.0.1.content ≡ Some blocks)
+    closed-told = told-blocks closed.0.1.content
+        (All-slice_get (λ (e : DiskSeen). IsSome e.content) (bare_disks l.disks) i closed.0.1 (told-left t).each (at-map (λ (p : ℕ × DiskSeen). p.1) l.disks i closed.0 closed.1))
+
+    placed-told : (blocks : List (List ℕ)) × (begun-as.0.1.content ≡ Some blocks)
+    placed-told = told-blocks begun-as.0.1.content
+        (All-slice_get (λ (e : DiskSeen). IsSome e.content) (bare_disks a.disks) i begun-as.0.1 (told-start t) (at-map (λ (p : ℕ × DiskSeen). p.1) a.disks i begun-as.0 begun-as.1))
+
+    given-told : (blocks : List (List ℕ)) × (given.0.content ≡ Some blocks)
+    given-told = told-blocks given.0.content (sym given.2.tells ∙ ap (λ (c : Option (List (List ℕ))). is_some c) placed-told.1)
+
+    past : (name : PageName) (block : ℕ) → disk_place (replay start-flat l.history.entries) name ≡ Some (volume_number sp, block) → 1 ≤ block
+    past name block at = left.places (told-left t) name (volume_number sp) block at
+
+    -- a block that a line's bytes filled has its page
+    filled : (block : ℕ) → (block_told begun-as.0.1.content block ≡ block_told given.0.content block)
+        ⊎ ((name : PageName) × (disk_place (replay start-flat l.history.entries) name ≡ Some (volume_number sp, block)) × (0 < bytes_there start-flat name) × (block_told begun-as.0.1.content block ≡ Some (page_there start-flat name)))
+    filled block = elim (given.2.each block) [
+      | inl same ↦ inl same
+      | inr h ↦
+          let f = line-filled what.plan g.holds files a made ready.placed plan (disk_sizes a.disks) (volume_number sp) begun-as.0.1.content block h in
+          inr (f.0, places-on start-flat l.history.entries f.0 (volume_number sp) block f.1, f.2, f.3)
+    ]
+
+    first : (block : ℕ) → (slice_index_or placed-told.0 block [] ≡ slice_index_or given-told.0 block []) ⊎ HasKeptPage start-flat l.history.entries (volume_number sp) placed-told.0 block
+    first block = elim (filled block) [
+      | inl same ↦ inl (same_Some (slice_index_or placed-told.0 block []) (slice_index_or given-told.0 block []) (sym (ap (λ (c : Option (List (List ℕ))). block_told c block) placed-told.1) ∙ same ∙ ap (λ (c : Option (List (List ℕ))). block_told c block) given-told.1))
+      | inr page ↦ inr (
+        page.0,
+        page.1,
+        opening-page start-flat l.history.entries page.0 (slice_index_or placed-told.0 block []) page.2
+            (same_Some (slice_index_or placed-told.0 block []) (page_there start-flat page.0) (sym (ap (λ (c : Option (List (List ℕ))). block_told c block) placed-told.1) ∙ page.3)),
+      )
+    ]
+
+    last : (block : ℕ) → block ≢ 0 → slice_index_or now-told.0 block [] ≡ slice_index_or closed-told.0 block []
+    last block far =
+        let now = (w.each i closed.0 back.0 closed.1 back.1).told closed-told.0 closed-told.1 in
+        let same : now.0 ≡ now-told.0 = same_Some now.0 now-told.0 (sym now.1 ∙ ap (λ (e : DiskSeen). e.content) back.2 ∙ now-told.1) in
+        ap (λ (blocks : List (List ℕ)). slice_index_or blocks block []) (sym same) ∙ now.3 block far
+
+    holds-history : HoldsHistory start-flat l.history.entries (volume_number sp) d.faults given-told.0 now-told.0
+    holds-history = held-through start-flat l.history.entries (volume_number sp) closed.0.1.faults d.faults given-told.0 placed-told.0 closed-told.0 now-told.0
+        (subst (λ (n : ℕ). HoldsHistory start-flat l.history.entries n closed.0.1.faults placed-told.0 closed-told.0) (number-at i sp closed.0 si closed.1)
+        (left.held (told-left t) i begun-as.0 closed.0 placed-told.0 closed-told.0 racked closed.1 placed-told.1 closed-told.1))
+        first last past (subst (λ (e : DiskSeen). closed.0.1.faults ≤ e.faults) back.2 (w.each i closed.0 back.0 closed.1 back.1).faults)
+
+    -- block 0, which no file keeps, where it is as the kernel left it
+    first-placed : block_told begun-as.0.1.content 0 ≡ block_told given.0.content 0
+    first-placed = elim (filled 0) [ inl old ↦ old | inr page ↦ absurd (let high = past page.0 0 page.1 in omega (arith, high)) ]
+
+    first-given : ((y : ℕ × DiskSeen) → slice_get l.disks i ≡ Some y → block_told d.content 0 ≡ block_told y.1.content 0) → block_told d.content 0 ≡ block_told given.0.content 0
+    first-given same =
+        same closed.0 closed.1
+        ∙ ap (λ (c : Option (List (List ℕ))). block_told c 0) closed-told.1
+        ∙ ap (λ (bytes : List ℕ). Some bytes) (left.first (told-left t) i begun-as.0 closed.0 placed-told.0 closed-told.0 racked closed.1 placed-told.1 closed-told.1)
+        ∙ sym (ap (λ (c : Option (List (List ℕ))). block_told c 0) placed-told.1)
+        ∙ first-placed
+
+    given-first : (was : DiskSeen) × IsVolumeAttached g.holds sp was
+        × (((y : ℕ × DiskSeen) → slice_get l.disks i ≡ Some y → block_told d.content 0 ≡ block_told y.1.content 0) → block_told d.content 0 ≡ block_told was.content 0)
+    given-first = (given.0, given.1, first-given)
+
+    disk-held : (was : DiskSeen) × IsVolumeAttached g.holds sp was
+        × IfSome d.content (λ now. IsSomeAnd was.content (λ old. HoldsHistory (flat_opened what files (bare_disks new)) l.history.entries (volume_number sp) d.faults old now))
+    disk-held = (
+      given.0,
+      given.1,
+      subst (λ (F : Flat). IfSome d.content (λ now. IsSomeAnd given.0.content (λ old. HoldsHistory F l.history.entries (volume_number sp) d.faults old now))) flat-same
+          (subst (λ (o : Option (List (List ℕ))). IfSome o (λ now. IsSomeAnd given.0.content (λ old. HoldsHistory start-flat l.history.entries (volume_number sp) d.faults old now))) (sym now-told.1)
+          (subst (λ (o : Option (List (List ℕ))). IsSomeAnd o (λ old. HoldsHistory start-flat l.history.entries (volume_number sp) d.faults old now-told.0)) (sym given-told.1) holds-history)),
+    )
 
   -- the tables that were written
   pub no-table : new ≡ l.disks → WroteNoTable g what ended
   no-table same t i sp d si di =
-      let given = given-at t i sp d si di in
+      let given = given-first t i sp d si di in
       let x = in-map (λ (p : ℕ × DiskSeen). p.1) new i d di in (
         given.0,
         given.1,
-        λ block first. subst (λ (b : ℕ). block_told d.content b ≡ block_told given.0.content b) (sym first) (given.2 0 (first-unkept t i sp d si di)
+        λ block first. subst (λ (b : ℕ). block_told d.content b ≡ block_told given.0.content b) (sym first) (given.2
             (λ y at. let one : x.0 ≡ y = same_Some x.0 y (sym x.1 ∙ ap (λ (ds : List (ℕ × DiskSeen)). slice_get ds i) same ∙ at) in
             ap (λ (q : DiskSeen). block_told q.content 0) (sym x.2) ∙ ap (λ (q : ℕ × DiskSeen). block_told q.1.content 0) one)),
       )
@@ -305,8 +361,7 @@ module _ (st : ℕ) (ft : Option RunFault) (g : Given) (what : Asked) (files : L
     counted = left.counted;
     reached = reached;
     counts = counts-told;
-    fronts = λ t. subst (HoldFronts (flat_opened what files (bare_disks new)) l.history.entries) (sym pairs-new) (fronts t);
-    unkept = unkept;
+    held = disk-held;
   }
 
   names-left : map (λ (v : VnodeSeen). v.info.name) l.files.files ≡ names_of files
@@ -344,13 +399,13 @@ module _ (st : ℕ) (ft : Option RunFault) (g : Given) (what : Asked) (files : L
           let here : slice_get new i ≡ Some d = ap (λ (ds : List (ℕ × DiskSeen)). slice_get ds i) (sym pairs-new) ∙ there in
           to.before i d (lower-before what.plan i place d.0 number-there (ap (λ (ns : List ℕ). slice_get ns i) (sym numbers-new) ∙ at-map number new i d here) at lower) here;
       above = λ t i sp d si di.
-          let given = given-at t i sp d si di in
+          let given = given-first t i sp d si di in
           let x = in-map (λ (p : ℕ × DiskSeen). p.1) new i d di in (
             given.0,
             given.1,
             λ block first.
                 let behind = lower-before what.plan place i number-there (volume_number sp) at (at-map volume_number (setup_volumes what.plan.setup) i sp si) first.0 in
-                subst (λ (b : ℕ). block_told d.content b ≡ block_told given.0.content b) (sym first.1) (given.2 0 (first-unkept t i sp d si di)
+                subst (λ (b : ℕ). block_told d.content b ≡ block_told given.0.content b) (sym first.1) (given.2
                 (λ y there. let one : x.0 ≡ y = same_Some x.0 y (sym x.1 ∙ to.behind i behind ∙ there) in
                 ap (λ (q : DiskSeen). block_told q.content 0) (sym x.2) ∙ ap (λ (q : ℕ × DiskSeen). block_told q.1.content 0) one)),
           );
@@ -363,12 +418,12 @@ module _ (st : ℕ) (ft : Option RunFault) (g : Given) (what : Asked) (files : L
         left = leaves none;
         below = λ i d there lower. say i d (ap (λ (ds : List (ℕ × DiskSeen)). slice_get ds i) (sym pairs-new) ∙ there);
         above = λ t i sp d si di.
-            let given = given-at t i sp d si di in
-            (given.0, given.1, λ block first. let low = (first-unkept t i sp d si di).0 in let high = first.0 in absurd (omega (arith, low, high)));
+            let given = given-first t i sp d si di in
+            (given.0, given.1, λ block first. let low = low-volume i sp d si di in let high = first.0 in absurd (omega (arith, low, high)));
       };
       next = λ t i sp d si di.
-          let given = given-at t i sp d si di in
-          (given.0, given.1, λ block first. let low = (first-unkept t i sp d si di).0 in let eight = first.0 in absurd (omega (arith, low, eight)));
+          let given = given-first t i sp d si di in
+          (given.0, given.1, λ block first. let low = low-volume i sp d si di in let eight = first.0 in absurd (omega (arith, low, eight)));
     }
 
     -- up to a place, and nothing else
@@ -381,13 +436,13 @@ module _ (st : ℕ) (ft : Option RunFault) (g : Given) (what : Asked) (files : L
           record {
             written = tables-below place n at (record { before = to.before; behind = λ i past. to.behind i (omega (arith, past)) });
             next = λ t i sp d si di.
-                let given = given-at t i sp d si di in
+                let given = given-first t i sp d si di in
                 let x = in-map (λ (p : ℕ × DiskSeen). p.1) new i d di in (
                   given.0,
                   given.1,
                   λ block first.
                       let here = same-place what.plan i place (volume_number sp) n (at-map volume_number (setup_volumes what.plan.setup) i sp si) at first.0 in
-                      subst (λ (b : ℕ). block_told d.content b ≡ block_told given.0.content b) (sym first.1) (given.2 0 (first-unkept t i sp d si di)
+                      subst (λ (b : ℕ). block_told d.content b ≡ block_told given.0.content b) (sym first.1) (given.2
                       (λ y there. let one : x.0 ≡ y = same_Some x.0 y (sym x.1 ∙ to.behind i (omega (arith, here)) ∙ there) in
                       ap (λ (q : DiskSeen). block_told q.content 0) (sym x.2) ∙ ap (λ (q : ℕ × DiskSeen). block_told q.1.content 0) one)),
                 );

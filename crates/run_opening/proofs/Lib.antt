@@ -1,9 +1,8 @@
 pub mod KeptBytes
 pub mod Courses
 pub mod Traced
-pub mod SparedLines
-pub mod KeptUnkept
+pub mod FilledLines
+pub mod HeldDisks
 pub mod RisingNumbers
-pub mod KeptFronts
 pub mod Unopened
 pub mod ReadyPlans

@@ -35,6 +35,7 @@ numbered-placed plan holds files a made p = record {
   kept = p.kept;
   given = record { tables = p.given.tables; found = p.given.found; read = p.given.read; mounted = p.given.mounted; lines = p.given.lines };
   written = record { each = p.written.each; last = p.written.last };
+  filled = p.filled;
   told = p.told;
   stored = p.stored;
 }

@@ -1,7 +1,7 @@
 -- Files that are placed, once their disks were read for the trace.
 use Rattle.run_kernel.proofs.StartedFlat.{infos-fresh as made-infos}
 use Rattle.std.proofs.Common.{◌≡◌, ℕ, zero, suc, ◌<◌, ◌==◌, ◌++◌, true, false, List, [], ◌∷◌, length, map, take, drop, append-nil, refl, sym, ap, ◌∙◌, subst, arith, inl, inr}
-use Rattle.std.specs.Prelude.{All, Bool, IfSome, IsSome, Err, Ok, Option, Some, None, option_map, slice_get, zip, if◌then◌else◌}
+use Rattle.std.specs.Prelude.{All, Bool, IfSome, IsSome, Err, Ok, Option, Some, None, is_some, option_map, slice_get, zip, if◌then◌else◌}
 use Rattle.std.specs.FinMap as finite
 use Rattle.std.specs.Map.{lookup}
 use Rattle.std.proofs.lemmas.Bool.{false≢true, ne_eqb}
@@ -28,14 +28,14 @@ use Rattle.volume_files.specs.stored_files.declared.showing.Heading.TheVariants.
 use Rattle.volume_files.specs.stored_files.declared.showing.ShowStop.{ShowStop}
 use Rattle.volume_files.specs.stored_files.declared.showing.ShowStop.TheVariants as show
 use Rattle.run_input.specs.Asked.{Given, Asked, WasAsked}
-use Rattle.volume_files.specs.Attached.{ArePlaced, AttachedSeen, FileDisksTell, HasItsBytes, bare_disks}
+use Rattle.volume_files.specs.Attached.{AreFilledBy, ArePlaced, AttachedSeen, FileDisksTell, HasFilledPage, HasItsBytes, bare_disks}
 use Rattle.volume_files.specs.stored_files.Written.{numbered_seen, infos_made, AreFilesBytes, AreOnlyRead, HaveFirstBlocks, FaultCounts, IsCountedSince, TraceShows, disk_sizes, open_fault_counts}
 use Rattle.volume_files.specs.stored_files.Closed.{StoreFiles, info_at, stored_bytes}
 use Rattle.run_opening.specs.Ready.{AreReadBytes, TraceStops, opening_stop}
 use Rattle.run_outcome.specs.Ended.{End, stop_end}
 use Rattle.volume_files.proofs.DiskCounts.{counts-kinds, kinds-read}
 use Rattle.volume_files.specs.Handed.{AreUncounted, HandsAll, HasDiskCause, HasSpecSize, HaveSpecSizes, HaveTold, IsCountedBy, volumes_of, sizes_of, AreWrittenAt, IsSwapAsGiven, block_told}
-use Rattle.volume_files.specs.Opened.{OpenedFile, opened_bytes_at, infos_of, line_files_of, numbered_plan, setup_volumes}
+use Rattle.volume_files.specs.Opened.{OpenedFile, opened_bytes_at, infos_of, line_files_of, numbered_plan, setup_volumes, volume_number}
 use Rattle.run_outcome.specs.Run.{AreOpenedBytes, CaseOf, IsOpened, Outside, opening_part, wrote_before}
 use Rattle.volume_files.specs.stored_files.Texts.{IsPageUnread, Wrote, WroteFront, WrotePart, file_sections, sections_before, trace_front}
 use Rattle.run_report.specs.AskedTexts.{trace_opening}
@@ -113,6 +113,25 @@ written-read plan holds lines old new swap swap2 r same h = record {
   last = subst (IsSwapAsGiven (amounts_of plan.setup).slots) (sym same) h.last;
 }
 
+-- .. and filled as they were
+filled-read : (plan : PlanSeen) (holds : Spec → Option (List (List ℕ))) (lines : List OpenedFile) (old new : List (ℕ × DiskSeen)) → AreOnlyRead old new
+    → AreFilledBy plan holds lines (bare_disks old) → AreFilledBy plan holds lines (bare_disks new)
+filled-read plan holds lines old new r h i s d si di =
+    let x = in-map (λ (p : ℕ × DiskSeen). p.1) new i d di in
+    let m = mate new old (sym r.numbers) i x.0 x.1 in
+    let w = h i s m.0.1 si (at-map (λ (p : ℕ × DiskSeen). p.1) old i m.0 m.1) in
+    let same : d.content ≡ m.0.1.content = ap (λ (z : DiskSeen). z.content) (sym x.2) ∙ (r.each i m.0 x.0 m.1 x.1).content in (
+      w.0,
+      w.1,
+      record {
+        tells = ap (λ (c : Option (List (List ℕ))). is_some c) same ∙ w.2.tells;
+        each = λ block. elim (w.2.each block) [
+          | inl stays ↦ inl (ap (λ (c : Option (List (List ℕ))). block_told c block) same ∙ stays)
+          | inr page ↦ inr (subst (λ (c : Option (List (List ℕ))). HasFilledPage lines (volume_number s) c block) (sym same) page)
+        ];
+      },
+    )
+
 -- the files are placed still
 pub placed-read : (plan : PlanSeen) (holds : Spec → Option (List (List ℕ))) (files : List OpenedFile) (a b : AttachedSeen) (made : FilesSeen) → ArePlaced plan holds files a made
     → AreOnlyRead a.disks b.disks → b.swap ≡ a.swap → ArePlaced plan holds files b made
@@ -129,6 +148,7 @@ placed-read plan holds files a b made p r same = record {
   kept = p.kept;
   given = comes-sizes plan holds (disk_sizes a.disks) (disk_sizes b.disks) (Ok files) (sym (pairs-read a.disks b.disks r)) p.given;
   written = written-read plan holds (line_files_of p.given.found files) a.disks b.disks a.swap b.swap r same p.written;
+  filled = filled-read plan holds (line_files_of p.given.found files) a.disks b.disks r p.filled;
   told = λ told. p.told (told-read a.disks b.disks r told);
   stored = stored-read (infos_of files) (opened_bytes_at files) a.disks b.disks r p.stored;
 }

@@ -32,7 +32,7 @@ use Rattle.run_input.specs.Asked.{Given, Asked, FailsToRead, WasAsked, run_reque
 use Rattle.volume_files.specs.stored_files.Closed.{StoreFiles, SaysItsTable, SayTables, infos_in_flat, flat_bytes, modes_in}
 use Rattle.run_endings.specs.Ending.{IsQuiet, status_of, fault_of, last_line_of}
 use Rattle.run_outcome.specs.Ended.{End, HasLateCause, CountsReach, HasCountsOf}
-use Rattle.run_outcome.specs.OnDisks.{AreUnkeptGiven, HoldFronts}
+use Rattle.run_outcome.specs.OnDisks.{HoldHistory}
 use Rattle.volume_files.specs.Handed.{AreGivenWhere, AreUncounted, AreWrittenAt, HaveTold, HandsNone, HandsFront, HandsAll, HasDiskCause, HasOpeningCause, HasRefusalCause, StopsAttaching, volumes_of, sizes_of, member_count}
 use Rattle.volume_files.specs.Opened.{line_files_of, ComesTo, OpenedFile, opened_files, infos_of, names_of, numbered_plan, opening_flat}
 use Rattle.volume_files.specs.stored_files.Texts.{Wrote, WroteAndFront, WroteAndPart, WroteFront, WroteOn, WrotePart, IsPageUnread, sections_before, trace_front}
@@ -167,8 +167,8 @@ pub record StopsInTrace (g : Given) (o : Outside) (e : End) : Type 0 where
 
 -- THE RUN BEGAN. Flat memory as the processes find it; where the disks tell, the history is legal for it, and a trace of both is a text that stands for them;
 -- whatever they tell, each of its entries, device errors aside, has the signal or errno that flat memory calls due, or none where none is; and each of its device
--- errors names a fault that its disk had counted before the closing began, by the counts that the history tells, which are the disks'. And where the disks tell, each block of a file's page holds the page as it was after a front of the history, and each block that
--- no file keeps for a page, block 0 aside, is as the rack gave it.
+-- errors names a fault that its disk had counted before the closing began, by the counts that the history tells, which are the disks'. And where the disks tell, all their blocks but block 0, and but as many of those that files keep as the disk counted faults,
+-- are as the rack gave them or have the page that a file keeps there, as it was after a front of the history; and each that a file keeps holds such a front.
 abbrev pub flat_opened : Asked → List OpenedFile → List DiskSeen → Flat
 flat_opened what files disks = opening_flat what.plan (sizes_of what.plan disks) files
 
@@ -191,8 +191,7 @@ pub record Begun (g : Given) (what : Asked) (files : List OpenedFile) (bytes : �
   pub counted : Counted e.history.entries
   pub reached : CountsReach what.plan e.history e.disks e.swap
   pub counts : HasCountsOf what.plan e.history e.disks e.swap
-  pub fronts : DisksTell e → HoldFronts (flat_opened what files e.disks) e.history.entries (volumes_of what.plan e.disks)
-  pub unkept : DisksTell e → AreUnkeptGiven what.plan g.holds (flat_opened what files e.disks) e.history.entries e.disks
+  pub held : DisksTell e → HoldHistory what.plan g.holds (flat_opened what files e.disks) e.history.entries e.disks
 
 -- The disks have its files: those with which it began, by name, disk and mode. Their records, lengths among them, are those of flat memory after the history,
 -- whatever disks tell; and where these tell, so are the bytes that they have.

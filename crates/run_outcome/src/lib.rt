@@ -1,12 +1,14 @@
 //! How a run ended, case by case, and what is handed back.
 #![tactic(auto)]
 
+mod block_laws;
 mod concluding;
 mod members;
 mod numbers;
 mod outcome;
 mod stop;
 
+pub use block_laws::synced_block_law;
 pub use concluding::conclude;
 pub use members::{hand_members, take_rooms};
 pub use numbers::without_numbers;

@@ -1,4 +1,4 @@
-//! Trials of scripts, of every printed text and of tables of files, with values worked out by hand. There is nothing here but tests.
+//! Trials of scripts, of every printed text, of tables of files and of words in a page, with values worked out by hand. There is nothing here but tests.
 #![tactic(auto)]
 
 #[cfg(test)]
@@ -11,6 +11,8 @@ mod fault_tests;
 mod generated_tests;
 #[cfg(test)]
 mod list_tests;
+#[cfg(test)]
+mod memory_word_tests;
 #[cfg(test)]
 mod opening_tests;
 #[cfg(test)]

@@ -8,6 +8,7 @@ use Rattle.std.proofs.lemmas.List.Elements.{All-append, All-take, All-drop}
 use Rattle.seg_ops.specs.core_arena.Bytes.{bytes_at, bytes_with_piece}
 use Rattle.seg_ops.specs.page_hash.Names.{name_at, find}
 use Rattle.seg_ops.specs.page_hash.declared.PageName.{PageName}
+use Rattle.seg_ops.proofs.Modified.{is_modified, is_rewritten, says}
 use Rattle.seg_ops.proofs.page_hash.NameLaws.{find-at}
 use Rattle.seg_ops.specs.page_lock.Rows.{row_at, clear_row, with_bits}
 use Rattle.seg_ops.specs.page_lock.declared.Row.{Row}
@@ -38,7 +39,7 @@ use Rattle.seg_ops.proofs.vm_world.FrameRule.{exists-page}
 use Rattle.seg_ops.proofs.vm_world.Shapes.{file-alike}
 use Rattle.seg_ops.proofs.vm_world.PageNames.{not-slot, file-apart}
 use Rattle.seg_ops.proofs.StillSteps.{KeepsFrames, KeepsRow, IsMarked, with_tables, memory_of, same-row, translation-kept, memory-kept, notes-kept, tell-kept, value-is}
-use Rattle.seg_ops.specs.vm_world.Serving.{ModifiesOnly}
+use Rattle.seg_ops.specs.vm_world.Serving.{ModifiesOnly, SaysOnly}
 use Rattle.seg_ops.proofs.vm_world.FlatWhole.{some-inj}
 use Rattle.seg_map.specs.Ends.{IsReadyPage}
 use Rattle.seg_map.specs.Puts.{with_bytes_in}
@@ -199,10 +200,13 @@ module _ (w : World) (spaces : Spaces) (new : StoreSeen) (f i frame at : ℕ) (b
   pub put-ready : IsReadyPage v name
   put-ready = record { frame = frame; home = laws.residence name ∙ home; unlisted = λ l. unlisted (listed frame l); modified = marked.modified; rewritten = marked.rewritten }
 
-  pub put-modifies : ModifiesOnly (λ m. m ≡ name) w v
-  put-modifies = λ m k at x.
+  put-says : (bit : Row → Bool) → SaysOnly (says bit) (λ m. m ≡ name) w v
+  put-says bit = λ m k at x.
       let was : residence w.store m ≡ Home k = sym (laws.residence m) ∙ at in
       elim (cases_eq k frame) [
         | inl e ↦ inl (some-inj m name (sym (find-at w.store.names m k (home-is w.store m k was).found) ∙ ap (name_at w.store.names) e ∙ find-at w.store.names name frame found))
-        | inr ne ↦ inr (was, elim x [ inl r ↦ inl (ap (λ (row : Row). row.modified) (sym (row-else k ne)) ∙ r) | inr y ↦ inr y ])
+        | inr ne ↦ inr (was, elim x [ inl r ↦ inl (ap bit (sym (row-else k ne)) ∙ r) | inr y ↦ inr y ])
       ]
+
+  pub put-modifies : ModifiesOnly (λ m. m ≡ name) w v
+  put-modifies = record { modified = put-says is_modified; rewritten = put-says is_rewritten }

@@ -24,7 +24,7 @@ use Rattle.seg_ops.proofs.vm_world.FileCalls.{file_calls_law}
 use Rattle.seg_ops.proofs.vm_world.FrameRule.{exists-page}
 use Rattle.seg_ops.proofs.vm_world.PageNames.{not-slot, file-apart}
 use Rattle.seg_ops.proofs.Composed.{keeps-same}
-use Rattle.seg_ops.proofs.NewlyModified.{none-of}
+use Rattle.seg_ops.proofs.NewlyModified.{none-of, only-of, only-same}
 use Rattle.seg_ops.proofs.StillSteps.{memory_of, value-is}
 use Rattle.home_pages.specs.Brings.{BringsPage, BringModifies}
 use Rattle.home_pages.proofs.Takes.{takes-none}
@@ -59,7 +59,7 @@ module _ (old : World) (spaces : Spaces) (pending p f offset len : ℕ) (fits : 
     acts = λ cleared. file_calls_law.read p f offset len cleared [] (memory_of old spaces) fits served (λ notes nf tell. sym (no-bytes _ (read_count (vnode_at old.files f).info.length offset len) none));
     replaced = none-replaced old old;
     refusal = none-due old spaces p f (Read f offset len) fits refl served;
-    modified = λ n frame home m. inr (home, m);
+    modified = only-same _ old;
     clean = λ from n is wants. absurd (let z : reply.Bytes [] ≡ reply.Synced from = is in cc);
   }
     where
@@ -76,7 +76,7 @@ module _ (old : World) (spaces : Spaces) (pending p f offset len : ℕ) (fits : 
     acts = λ cleared. file_calls_law.read p f offset len cleared line (memory_of new spaces) b.first.step.memory (ap (λ (fs : FilesSeen). file_refusal fs (Read f offset len)) files ∙ served) reads;
     replaced = b.replaced;
     refusal = none-due old spaces p f (Read f offset len) fits refl served;
-    modified = λ n frame home m. inr (none-of (BringModifies new name (Ok tt)) old new (brings-none old new f (page offset) far) b.modified n frame home m);
+    modified = only-of _ old new (none-of (BringModifies new name (Ok tt)) old new (brings-none old new f (page offset) far) b.modified);
     clean = λ from n e wants. absurd (let z : reply.Bytes line ≡ reply.Synced from = e in cc);
   }
     where

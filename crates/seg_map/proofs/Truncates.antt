@@ -21,6 +21,7 @@ use Rattle.seg_ops.specs.vm_world.Words.{KeepsPages}
 use Rattle.seg_ops.specs.vm_world.World.{World, file_name}
 use Rattle.seg_ops.specs.vm_world.declared.wants.Wants.{Wants}
 use Rattle.seg_ops.specs.vm_world.declared.wants.Wants.TheVariants.{Seat}
+use Rattle.seg_ops.proofs.Modified.{modifies-same}
 use Rattle.seg_ops.proofs.vm_world.FileCalls.{file_calls_law}
 use Rattle.seg_ops.specs.Plans.{FetchesPage}
 use Rattle.seg_ops.proofs.Composed.{keeps-same}
@@ -89,5 +90,5 @@ module _ (old : World) (spaces : Spaces) (pending p f n : ℕ) (fits : MemoryFit
     spaces = refl;
     holds = (file_name f (page n), inl (room, inr (record { cut = record { shorter = less; tail = tail; last = refl }; away = (seat, moving) })), moving);
     refusal = λ file. due-none;
-    modified = λ name frame home m. (home, m);
+    modified = modifies-same old;
   }

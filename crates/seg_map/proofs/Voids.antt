@@ -8,6 +8,7 @@ use Rattle.std.proofs.lemmas.List.{length-map, get_or-set_other, length-set}
 use Rattle.seg_ops.specs.core_arena.Bytes.{bytes_at}
 use Rattle.seg_ops.specs.page_hash.Names.{name_at}
 use Rattle.seg_ops.specs.page_hash.declared.PageName.{PageName}
+use Rattle.seg_ops.proofs.Modified.{is_modified, is_rewritten, says}
 use Rattle.seg_ops.proofs.page_hash.NameLaws.{find-at, find-none}
 use Rattle.seg_ops.specs.page_lock.Rows.{row_at}
 use Rattle.seg_ops.specs.page_lock.declared.Row.{Row}
@@ -43,7 +44,7 @@ use Rattle.seg_ops.specs.vm_world.MemoryFits.{MemoryFits}
 use Rattle.seg_ops.specs.vm_world.NotesFit.{NotesFit, PushFits, MayWriteGone}
 use Rattle.seg_ops.specs.vm_world.Pages.{page_value, file_contents}
 use Rattle.seg_ops.specs.vm_world.Segments.{Spaces}
-use Rattle.seg_ops.specs.vm_world.Serving.{ModifiesNone}
+use Rattle.seg_ops.specs.vm_world.Serving.{ModifiesNone, SaysNone}
 use Rattle.seg_ops.specs.vm_world.State.{FileMode, mode_of}
 use Rattle.seg_ops.specs.vm_world.TranslationsFit.{TranslationFits, HasWritten, IsModified}
 use Rattle.seg_ops.specs.vm_world.World.{World, file_name, slot_name, file_blocks, is_unpushed, page_exists, page_table, world_table, AllTell}
@@ -364,18 +365,21 @@ module _ (w : World) (spaces : Spaces) (new : StoreSeen) (hat : HatSeen) (files 
 
 -- NO PAGE BECOMES MODIFIED.
 pub void-modifies : (w : World) (new : StoreSeen) (hat : HatSeen) (files : FilesSeen) (n : PageName) → GivesUp w.store new n → DropsPage w.store w.hat hat n → ModifiesNone w (record w { store = new; hat = hat; files = files })
-void-modifies w new hat files n g d = λ m k at x.
-    let ne : m ≢ n = λ e. let z : Absent ≡ Home k = sym g.laws.absent ∙ ap (residence new) (sym e) ∙ at in cc in
-    elim (g.each k) [
-      | inl up ↦ absurd (let z : Some m ≡ None = sym (find-at new.names m k (home-is new m k at).found) ∙ up.unnamed in cc)
-      | inr other ↦ (
-        sym (g.laws.stay m ne) ∙ at,
-        elim x [ inl r ↦ inl (ap (λ (row : Row). row.modified) (sym other.row) ∙ r) | inr y ↦ inr (was-written k y) ],
-      )
-    ]
+void-modifies w new hat files n g d = record { modified = void-says is_modified; rewritten = void-says is_rewritten }
   where
     was-written : (k : ℕ) → HasWritten hat.places k → HasWritten w.hat.places k
     was-written k y = record { place = y.place; translation = y.translation; there = (d.kept y.place y.translation y.there).0; leads = y.leads; modified = y.modified }
+
+    void-says : (bit : Row → Bool) → SaysNone (says bit) w (record w { store = new; hat = hat; files = files })
+    void-says bit = λ m k at x.
+        let ne : m ≢ n = λ e. let z : Absent ≡ Home k = sym g.laws.absent ∙ ap (residence new) (sym e) ∙ at in cc in
+        elim (g.each k) [
+          | inl up ↦ absurd (let z : Some m ≡ None = sym (find-at new.names m k (home-is new m k at).found) ∙ up.unnamed in cc)
+          | inr other ↦ (
+            sym (g.laws.stay m ne) ∙ at,
+            elim x [ inl r ↦ inl (ap bit (sym other.row) ∙ r) | inr y ↦ inr (was-written k y) ],
+          )
+        ]
 
 -- A page that isn't home has no translation; the translations of one that is were dropped.
 pub drops-none : (w : World) (spaces : Spaces) (n : PageName) → MemoryFits (memory_of w spaces) → ((frame : ℕ) → residence w.store n ≢ Home frame) → DropsPage w.store w.hat w.hat n

@@ -266,10 +266,8 @@ module _ (old : World) (spaces : Spaces) (pending p f offset rest : ℕ) (line :
     acts = d.acts;
     replaced = replaced-later old mid new d.first.cut names d.replaced;
     refusal = none-due old spaces p f (Write f offset line rest) fits refl served;
-    modified = λ n frame home m. elim (d.modified n frame home m) [
-      | inr was ↦ inr (none n frame was.0 was.1)
-      | inl may ↦ inl (elim may [ inl own ↦ inl own | inr gap ↦ inr (gap-as mid old f (offset + length line) n (sym files) gap) ])
-    ];
+    modified = none-then (λ n. (n ≡ name) ⊎ IsGapPage old f (offset + length line) n) old mid new none (only-as (λ n. (n ≡ name) ⊎ IsGapPage mid f (offset + length line) n) (λ n. (n ≡ name) ⊎ IsGapPage old f (offset + length line) n) mid new
+        (λ n may. elim may [ inl own ↦ inl own | inr gap ↦ inr (gap-as mid old f (offset + length line) n (sym files) gap) ]) d.modified);
     clean = d.clean;
   }
   serves-later mid new more (Err (Transfer plan)) keeps names files stay none d = record {

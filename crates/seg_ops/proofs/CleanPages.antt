@@ -60,7 +60,7 @@ unset-clean w name frame home unset unwritten = record {
 -- ONE THAT IS CLEAN stays so where pages stay and none becomes modified
 pub still-clean : (u v : World) (name : PageName) → SameResidence u.store v.store → ModifiesNone u v → IsCleanPage u name → IsCleanPage v name
 still-clean u v name stay none clean = record {
-  unmodified = λ frame home modified. let was = none name frame home modified in clean.unmodified frame was.0 was.1;
+  unmodified = λ frame home modified. let was = none.modified name frame home modified in clean.unmodified frame was.0 was.1;
   still = λ t moving. clean.still t (sym (stay name) ∙ moving);
 }
 

@@ -3,7 +3,7 @@ use Rattle.std.proofs.Common.{◌≡◌, ◌≢◌, ℕ, ◌<◌, true, List, le
 use Rattle.std.specs.Option.{option_or}
 use Rattle.std.specs.Prelude.{◌||◌}
 use Rattle.std.proofs.lemmas.Bool.{eq-eqb, or_left as or-left, or_right as or-right}
-use Rattle.page_store.specs.page_lock.Rows.{row_at, clear_row, with_bits}
+use Rattle.page_store.specs.page_lock.Rows.{row_at, clear_row, with_bits_added}
 use Rattle.page_store.specs.page_lock.declared.Row.{Row}
 use Rattle.page_store.specs.Laws.{StaysInPlace}
 use Rattle.page_store.specs.Moves.{is_only}
@@ -55,7 +55,7 @@ sent-unloaded w spaces places own frame f is out = subst (λ (ps : List (Option 
 -- WHAT WAS GATHERED: the row of a modified page says so.
 pub gathered-modified : (store : StoreSeen) (places : List (Option Translation)) (frame : ℕ) → frame < length store.rows → IsModified store places frame → (row_at (with_bits_gathered store frame (bits_of frame places)).rows frame).modified ≡ true
 gathered-modified store places frame lt m =
-    ap (λ (r : Row). r.modified) (get_or-set_same store.rows frame (with_bits (row_at store.rows frame) ((row_at store.rows frame).referenced || (bits_of frame places).0) ((row_at store.rows frame).modified || (bits_of frame places).1)) clear_row lt)
+    ap (λ (r : Row). r.modified) (get_or-set_same store.rows frame (with_bits_added (row_at store.rows frame) (bits_of frame places).0 (bits_of frame places).1) clear_row lt)
     ∙ elim m [
       | inl r ↦ or-left (row_at store.rows frame).modified (bits_of frame places).1 r
       | inr x ↦ or-right (row_at store.rows frame).modified (bits_of frame places).1 (any-place (has_bit (λ t. t.modified) frame) places x.place x.translation x.there (rw (eq-eqb x.translation.frame frame x.leads, x.modified) refl))

@@ -2,7 +2,7 @@
 use Rattle.std.proofs.lemmas.Bool.{or_left as or-left, or_right as or-right}
 use Rattle.std.proofs.Common.{◌≡◌, ℕ, ◌<◌, Bool, true, List, length, Option, Some, refl, sym, ap, ◌∙◌, ◌⊎◌, inl, inr, subst, arith, get_or-set_same}
 use Rattle.std.specs.Prelude.{◌||◌}
-use Rattle.page_store.specs.page_lock.Rows.{row_at, clear_row, with_bits}
+use Rattle.page_store.specs.page_lock.Rows.{row_at, clear_row, with_bits_added}
 use Rattle.page_store.specs.page_lock.declared.Row.{Row}
 use Rattle.page_store.specs.Laws.{StaysInPlace}
 use Rattle.page_store.specs.Moves.{is_only}
@@ -18,7 +18,7 @@ use Rattle.seg_ops.proofs.StillSteps.{KeepsRow, KeepsFrames, same-row}
 
 -- the row of a frame with bits added
 abbrev pub added : Row → Bool × Bool → Row
-added row told = with_bits row (row.referenced || told.0) (row.modified || told.1)
+added row told = with_bits_added row told.0 told.1
 
 -- each row after the bits of one frame were gathered
 pub row-gathered : (s : StoreSeen) (frame : ℕ) (told : Bool × Bool) (k : ℕ) → (row_at (with_bits_gathered s frame told).rows k ≡ row_at s.rows k) ⊎ ((k ≡ frame) × (row_at (with_bits_gathered s frame told).rows k ≡ added (row_at s.rows k) told))
@@ -28,7 +28,7 @@ row-gathered s frame told k = elim (index-set s.rows frame (added (row_at s.rows
 ]
 
 keeps-added : (row : Row) (told : Bool × Bool) → KeepsRow row (added row told)
-keeps-added row told = record { keeps = refl; gone = refl; source = refl; rewritten = λ h. or-left row.rewritten (row.modified || told.1) h }
+keeps-added row told = record { keeps = refl; gone = refl; source = refl; rewritten = λ h. or-left row.rewritten told.1 h }
 
 pub row-keeps : (s : StoreSeen) (frame : ℕ) (told : Bool × Bool) (k : ℕ) → KeepsRow (row_at s.rows k) (row_at (with_bits_gathered s frame told).rows k)
 row-keeps s frame told k = elim (row-gathered s frame told k) [
@@ -48,8 +48,7 @@ pub row-told : (s : StoreSeen) (frame : ℕ) (told : Bool × Bool) → frame < l
     → ((row_at (with_bits_gathered s frame told).rows frame).modified ≡ true) × ((row_at (with_bits_gathered s frame told).rows frame).rewritten ≡ true)
 row-told s frame told lt h =
     let is : row_at (with_bits_gathered s frame told).rows frame ≡ added (row_at s.rows frame) told = get_or-set_same s.rows frame (added (row_at s.rows frame) told) clear_row lt in
-    let m = or-right (row_at s.rows frame).modified told.1 h in
-    (ap (λ (r : Row). r.modified) is ∙ m, ap (λ (r : Row). r.rewritten) is ∙ or-right (row_at s.rows frame).rewritten ((row_at s.rows frame).modified || told.1) m)
+    (ap (λ (r : Row). r.modified) is ∙ or-right (row_at s.rows frame).modified told.1 h, ap (λ (r : Row). r.rewritten) is ∙ or-right (row_at s.rows frame).rewritten told.1 h)
 
 -- BITS OF A FRAME ON NO LIST are gathered, and what the translations no longer say was told.
 pub keeps-gathered : (s : StoreSeen) (files : FilesSeen) (anon : AnonSlotsSeen) (before after : List (Option Translation)) (frame : ℕ) (told : Bool × Bool) → FramesFit s files anon → frame < length s.frames → ¬ IsListedFrame s frame

@@ -24,6 +24,7 @@ use Rattle.vm_world.specs.TranslationsFit.{TranslationFits}
 use Rattle.vm_world.specs.World.{World, core_of, world_table}
 use Rattle.vm_world.specs.Words.{KeepsPages}
 use Rattle.seg_ops.specs.Steps.{MayShow}
+use Rattle.seg_ops.proofs.Modified.{rows-modify}
 use Rattle.seg_ops.proofs.StillSteps.{with_tables, memory_of, same-row, translation-kept, step-keeps}
 
 -- what a reclaim leaves as it was
@@ -111,8 +112,4 @@ pub reclaim-names : (s new : StoreSeen) (name : PageName) → new ≡ after_recl
 reclaim-names s new name step = let a = subst (λ (x : StoreSeen). Alike x s) (sym step) (alike-in (find s.names name) s) in (a.names, a.frames)
 
 pub reclaim-modifies : (w : World) (new : StoreSeen) (name : PageName) → new ≡ after_reclaim w.store name → SameResidence w.store new → ModifiesNone w (with_tables w new w.hat)
-reclaim-modifies w new name step stay = λ n k home m.
-    let a = subst (λ (x : StoreSeen). Alike x w.store) (sym step) (alike-in (find w.store.names name) w.store) in (
-      sym (stay n) ∙ home,
-      elim m [ inl r ↦ inl (ap (λ (rows : List Row). (row_at rows k).modified) (sym a.rows) ∙ r) | inr x ↦ inr x ],
-    )
+reclaim-modifies w new name step stay = rows-modify w new (subst (λ (x : StoreSeen). Alike x w.store) (sym step) (alike-in (find w.store.names name) w.store)).rows stay

@@ -90,5 +90,5 @@ home-again old new anon maps pending more slot free made = record {
   home = made.home;
   took = lost-before (next_name old.store) old (record old { anon = anon; maps = maps }) new refl made.took;
   pends = record { bits = made.pends.bits; below = made.pends.below };
-  modified = made.modified;
+  modified = record { modified = made.modified.modified; rewritten = made.modified.rewritten };
 }

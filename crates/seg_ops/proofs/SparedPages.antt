@@ -49,7 +49,7 @@ disk-then u v spaces name fits makes = (λ d. (d.0, room-disk u v spaces name fi
 pub still-clean : (u v : World) (name : PageName) (frame : ℕ) → residence v.store name ≡ Home frame → ModifiesNone u v → (row_at u.store.rows frame).modified ≡ false → IsUnwritten u.hat.places frame
     → ((row_at v.store.rows frame).modified ≡ false) × IsUnwritten v.hat.places frame
 still-clean u v name frame home none clear unwritten =
-    let was : ¬ IsModified v.store v.hat.places frame = λ m. not-modified u.store u.hat.places frame clear unwritten (none name frame home m).1 in (
+    let was : ¬ IsModified v.store v.hat.places frame = λ m. not-modified u.store u.hat.places frame clear unwritten (none.modified name frame home m).1 in (
       elim (cases_Bool (row_at v.store.rows frame).modified) [ inl t ↦ absurd (was (inl t)) | inr free ↦ free ],
       λ place t there leads. elim (cases_Bool t.modified) [ inl m ↦ absurd (was (inr (record { place = place; translation = t; there = there; leads = leads; modified = m }))) | inr free ↦ free ],
     )

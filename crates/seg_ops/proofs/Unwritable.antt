@@ -2,16 +2,18 @@
 use Rattle.std.proofs.Common.{◌≡◌, ◌≢◌, ℕ, Bool, true, false, cond, List, Option, Some, None, refl, sym, ap, ◌∙◌, inl, inr, subst, slice_index_or}
 use Rattle.std.specs.Prelude.{option_map}
 use Rattle.std.proofs.lemmas.Bool.{cases_Bool}
+use Rattle.page_store.specs.page_lock.declared.Row.{Row}
 use Rattle.vm_world.specs.hat_layer.declared.translation.Translation.{Translation}
 use Rattle.vm_world.specs.hat_layer.Pool.{HatSeen, IsSingleValued, change_at, change_page, holds, without_write}
 use Rattle.vm_world.specs.MemoryFits.{MemoryFits}
 use Rattle.vm_world.specs.Segments.{Spaces}
 use Rattle.vm_world.specs.TranslationsFit.{TranslationFits, TranslationsFit, HasWritten}
-use Rattle.vm_world.specs.Serving.{ModifiesNone}
+use Rattle.vm_world.specs.Serving.{ModifiesNone, SaysNone}
 use Rattle.vm_world.specs.World.{World, world_table}
 use Rattle.vm_world.proofs.Loaded.{holds-own}
 use Rattle.vm_world.specs.Words.{KeepsPages}
 use Rattle.seg_ops.specs.Writers.{HasNoWriter, WasWriter, WritersStay}
+use Rattle.seg_ops.proofs.Modified.{is_modified, is_rewritten, says}
 use Rattle.seg_ops.proofs.Places.{each-change_at, index-map}
 use Rattle.seg_ops.proofs.StillSteps.{with_tables, memory_of, step-keeps, keeps-store, values-same}
 use Rattle.seg_ops.proofs.Unloads.{holds-at}
@@ -71,7 +73,10 @@ unwritten places space page frame w = by_case (slice_index_or places w.place Non
     by_case o at (lost u was s) = record { place = w.place; translation = u; there = at ∙ was; leads = sym (ap (λ (x : Translation). x.frame) s) ∙ w.leads; modified = sym (ap (λ (x : Translation). x.modified) s) ∙ w.modified }
 
 pub protect-modifies : (w : World) (hat : HatSeen) (space page : ℕ) → hat.places ≡ change_at space page without_write w.hat.places → ModifiesNone w (with_tables w w.store hat)
-protect-modifies w hat space page places name k home m = (home, elim m [ inl row ↦ inl row | inr said ↦ inr (unwritten w.hat.places space page k (subst (λ (ps : List (Option Translation)). HasWritten ps k) places said)) ])
+protect-modifies w hat space page places = record { modified = protect-says is_modified; rewritten = protect-says is_rewritten }
+  where
+    protect-says : (bit : Row → Bool) → SaysNone (says bit) w (with_tables w w.store hat)
+    protect-says bit = λ name k home m. (home, elim m [ inl row ↦ inl row | inr said ↦ inr (unwritten w.hat.places space page k (subst (λ (ps : List (Option Translation)). HasWritten ps k) places said)) ])
 
 fits-without : (w : World) (spaces : Spaces) (t : Translation) → TranslationFits w.store w.anon w.maps spaces t → TranslationFits w.store w.anon w.maps spaces (without_write t)
 fits-without w spaces t l = record { spot = l.spot; here = l.here; name = l.name; shows = l.shows; home = l.home; unlisted = l.unlisted; allowed = l.allowed; writable = λ is. absurd (let z : false ≡ true = is in cc) }

@@ -36,7 +36,7 @@ abbrev pub was_used : World → ℕ → Bool
 was_used w frame = (row_at w.store.rows frame).referenced || (bits_of frame w.hat.places).0
 
 -- ROOM IS MADE: bits are gathered, translations dropped and frames listed, and nothing else. Every page stays where it is and what it is, in the frame
--- that it has, and none becomes modified.
+-- that it has, and none becomes modified, or comes to count as rewritten.
 pub record MakesRoom {D : Type 0} (old new : rust.World D) : Type 0 where
   pub rest : OnlyStoreAndHat old new
   pub stay : SameResidence old.store new.store

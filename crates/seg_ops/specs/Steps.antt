@@ -1,7 +1,7 @@
 -- What the steps do to the world. Public clauses cite this.
 use Rattle.std.specs.Prelude.{◌≡◌, ◌≢◌, ◌↔◌, length, ℕ, ◌||◌, Bool, true, false, List, Option, Some, None, IsTrue, slice_index_or}
 use Rattle.page_store.specs.page_hash.declared.PageName.{PageName}
-use Rattle.page_store.specs.page_lock.Rows.{row_at, with_bits}
+use Rattle.page_store.specs.page_lock.Rows.{row_at, with_bits_added}
 use Rattle.page_store.specs.Notes.{Notes}
 use Rattle.page_store.specs.Seen.{StoreSeen}
 use Rattle.page_store.specs.Steps.{with_row}
@@ -20,10 +20,11 @@ use Rattle.vm_world.specs.World.{World, world_seen, core_of, is_page_name, AllTe
 use Rattle.vm_world.specs.WorldSteps.{KeepsTables}
 use Rattle.vm_world.specs.declared.world.World as rust
 
--- the store once bits that were told of a frame's translations, referenced and modified, were gathered into its page
+-- the store once bits that were told of a frame's translations, referenced and modified, were gathered into its page: it counts as rewritten only where
+-- they told of a store
 abbrev pub with_bits_gathered : StoreSeen → ℕ → Bool × Bool → StoreSeen
 with_bits_gathered s frame told =
-    with_row s frame (with_bits (row_at s.rows frame) ((row_at s.rows frame).referenced || told.0) ((row_at s.rows frame).modified || told.1))
+    with_row s frame (with_bits_added (row_at s.rows frame) told.0 told.1)
 
 -- the store once the bits of a frame's translations are in its page
 abbrev pub store_gathered : {D : Type 0} → rust.World D → ℕ → StoreSeen

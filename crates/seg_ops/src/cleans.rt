@@ -34,8 +34,8 @@ fn clean<D: Disk>(world: &mut World<D>, name: PageName) -> Option<Wants>
     }
 }
 
-// Whether a page that is home is modified. The bits of its translations are gathered only where its own bit doesn't say so: while a
-// page is on its way out from a snapshot, gathering would count as a store to it.
+// Whether a page that is home is modified. Its translations are asked only where its own bit doesn't say so: what they would tell is gathered as its
+// push begins.
 fn is_modified<D: Disk>(world: &mut World<D>, frame: u32) -> bool
     requires frame { frame < length world.old.store.frames }
     requires unlisted { ¬ IsListedFrame world.old.store frame }

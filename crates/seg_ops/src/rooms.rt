@@ -119,8 +119,7 @@ fn forget_use<D: Disk>(world: &mut World<D>, frame: u32)
     ensures lists { SameLists world.old.store world.new.store }
     ensures makes { MakesRoom world.old world.new }
 {
-    let (_, modified) = world.store.bits(frame);
-    world.store.set_bits(frame, false, modified);
+    world.store.set_used(frame, false);
 }
 
 /// The bits of use in the rows of all pages are cleared. Those of the translations were gathered into them as the frames were looked at.

@@ -13,8 +13,7 @@ pub(crate) fn add_bits<D: Disk>(store: &mut Store<D>, frame: u32, told: (bool, b
     ensures new { store.new ≡ with_bits_gathered store.old frame told }
     ensures laws { StaysInPlace store.old store.new (is_only (Some frame)) }
 {
-    let (referenced, modified) = store.bits(frame);
-    store.set_bits(frame, referenced || told.0, modified || told.1);
+    store.add_bits(frame, told.0, told.1);
 }
 
 /// Gathers the bits of a translation that had to give way, where one had to.

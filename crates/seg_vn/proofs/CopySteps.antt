@@ -15,6 +15,7 @@ use Rattle.seg_ops.specs.page_store.Seen.{StoreSeen, IsListedFrame, residence}
 use Rattle.seg_ops.specs.page_store.Steps.{next_frame, next_name, after_abort, at_frame, with_page_given_up, without_snapshot}
 use Rattle.seg_ops.specs.page_store.declared.residence.Residence.TheVariants.{Home, Moving, Absent}
 use Rattle.seg_ops.specs.page_store.declared.plan.Hold.TheVariants as hold
+use Rattle.seg_ops.proofs.NewlyModified.{only-of, only-same}
 use Rattle.seg_ops.proofs.page_store.QueryLemmas.{absent-is}
 use Rattle.seg_ops.specs.hat_layer.Pool.{HatSeen, translation_at, fresh_translation}
 use Rattle.seg_ops.specs.hat_layer.declared.translation.Dropped.{Dropped}
@@ -312,11 +313,11 @@ zeros-stay w v (Some name) stay files anon zs = (
 pub away-serves : (w : World) (spaces : Spaces) (p q : ℕ) (x : Spot) (write : Bool) (pending seat : ℕ) (name : PageName) → MemoryFits (memory_of w spaces) → spot_at spaces p q ≡ Some x → IsTrue (shows_page w x) → shown_name w.maps x ≡ Some name
     → residence w.store name ≡ Moving seat → ServesFault (memory_of w spaces) (memory_of w spaces) pending pending p q x write (Err (wants.Seat (hold.Page seat)))
 away-serves w spaces p q x write pending seat name fits here some shows away =
-    serves-kept w w spaces p q x write pending pending (Err (wants.Seat (hold.Page seat))) (takes-none w w spaces pending (keeps-same w spaces fits)) (none-replaced w w) (sym (ap not some)) (λ born notes. refl) (record { counts = refl; places = refl }) (λ n k at m. inr (at, m))
+    serves-kept w w spaces p q x write pending pending (Err (wants.Seat (hold.Page seat))) (takes-none w w spaces pending (keeps-same w spaces fits)) (none-replaced w w) (sym (ap not some)) (λ born notes. refl) (record { counts = refl; places = refl }) (only-same _ w)
     (shown-waits w w spaces p q x write name (wants.Seat (hold.Page seat)) (record { here = here; some = some }) shows (λ calls of w. (name, inl w, away)) (λ frame home. let z : Moving seat ≡ Home frame = sym away ∙ home in cc))
 
 pub fetch-serves : (old mid : World) (spaces : Spaces) (p q : ℕ) (x : Spot) (write : Bool) (pending : ℕ) (name : PageName) (answer : Wants) → IsTrue (shows_page old x) → KeepsPages old mid spaces → KeepsSlots old mid → residence old.store name ≡ Absent → ModifiesNone old mid
     → ShowsPage (memory_of mid spaces) p q x → shown_name mid.maps x ≡ Some name → FetchesPage (memory_of mid spaces) name answer → ServesFault (memory_of old spaces) (memory_of mid spaces) pending pending p q x write (Err answer)
 fetch-serves old mid spaces p q x write pending name answer some keeps kept absent modified there shows f =
-    serves-kept old mid spaces p q x write pending pending (Err answer) (takes-none old mid spaces pending keeps) (none-replaced old mid) (sym (ap not some)) (λ born notes. refl) kept (λ n k at m. inr (modified n k at m))
+    serves-kept old mid spaces p q x write pending pending (Err answer) (takes-none old mid spaces pending keeps) (none-replaced old mid) (sym (ap not some)) (λ born notes. refl) kept (only-of _ old mid modified)
     (shown-waits old mid spaces p q x write name answer there shows f (λ frame home. absent-home (residence old.store name) frame absent home))

@@ -37,6 +37,7 @@ use Rattle.seg_ops.specs.vm_world.TranslationsFit.{MayWriteInPlace}
 use Rattle.seg_ops.specs.vm_world.Wants.{IsDirtyPage, MakesSlotFor, ShowsPage, WantsHome, accessed_page, object_has, shows_page}
 use Rattle.seg_ops.specs.vm_world.World.{World, slot_in, slot_name}
 use Rattle.seg_ops.specs.vm_world.WorldSteps.{tails_lost}
+use Rattle.seg_ops.proofs.NewlyModified.{only-of, only-same}
 use Rattle.seg_ops.proofs.vm_world.FlatWhole.{some-inj}
 use Rattle.seg_ops.specs.OwnPages.{with_own_shown}
 use Rattle.seg_ops.specs.Plans.{FetchesPage, IsAsked}
@@ -167,7 +168,7 @@ pub made-asks : (old w : World) (spaces : Spaces) (p q : ℕ) (x : Spot) (write 
     → ((call : Call) → Accesses write q call → MakesSlotFor w x call) → ((call : Call) → Accesses write q call → KeepsWanted (memory_of old spaces) (memory_of w spaces) p call) → ModifiesNone old w
     → next_frame w.store ≡ None → IsDirtyPage w victim → IsAsked w (plan.Push victim) answer → ServesFault (memory_of old spaces) (memory_of w spaces) pending more p q x write (Err answer)
 made-asks old w spaces p q x write pending more victim answer first replaced some kept there makes wanted modified none dirty asked =
-    serves-kept old w spaces p q x write pending more (Err answer) first replaced (sym (ap not some)) (λ born notes. refl) kept (λ n k at m. inr (modified n k at m))
+    serves-kept old w spaces p q x write pending more (Err answer) first replaced (sym (ap not some)) (λ born notes. refl) kept (only-of _ old w modified)
     (pushes-made old w spaces p q x write victim answer first.step.memory there makes wanted none dirty asked)
 
 -- ZEROS: no page is shown, and an access makes one.
@@ -351,5 +352,5 @@ shared-in-place w spaces p q x fits here own writes = record {
 -- nothing is shown past the object's end
 pub past-serves : (w : World) (spaces : Spaces) (p q : ℕ) (x : Spot) (write : Bool) (pending : ℕ) → MemoryFits (memory_of w spaces) → own_slot w.maps x ≡ None → IsFalse (object_has w x.0.shown (x.0.index + x.1) x.0.object)
     → ServesFault (memory_of w spaces) (memory_of w spaces) pending pending p q x write (Ok fault.Past)
-past-serves w spaces p q x write pending fits bare past = serves-kept w w spaces p q x write pending pending (Ok fault.Past) (takes-none w w spaces pending (keeps-same w spaces fits)) (none-replaced w w) (sym (ap not (ap (λ (o : Option ℕ). is_some o || object_has w x.0.shown (x.0.index + x.1) x.0.object) bare ∙ past))) (λ born notes. refl) (record { counts = refl; places = refl }) (λ n k at m. inr (at, m))
+past-serves w spaces p q x write pending fits bare past = serves-kept w w spaces p q x write pending pending (Ok fault.Past) (takes-none w w spaces pending (keeps-same w spaces fits)) (none-replaced w w) (sym (ap not (ap (λ (o : Option ℕ). is_some o || object_has w x.0.shown (x.0.index + x.1) x.0.object) bare ∙ past))) (λ born notes. refl) (record { counts = refl; places = refl }) (only-same _ w)
     (ap (λ (o : Option ℕ). is_some o || object_has w x.0.shown (x.0.index + x.1) x.0.object) bare ∙ past)

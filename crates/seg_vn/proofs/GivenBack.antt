@@ -123,5 +123,5 @@ release-given u v o r there is = subst (λ (w : World). GivesBack u w) (sym is) 
   there = λ k. released-there u.maps o k there;
   lengths = λ k. released-lengths u.maps o k there;
   numbers = released-free u.maps o there;
-  modified = λ name k home m. (home, m);
+  modified = record { modified = λ name k home m. (home, m); rewritten = λ name k home m. (home, m) };
 })

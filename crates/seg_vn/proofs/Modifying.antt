@@ -10,6 +10,7 @@ use Rattle.seg_ops.specs.vm_world.World.{World, slot_name}
 use Rattle.seg_ops.specs.Faults.{FaultModifies}
 use Rattle.seg_ops.specs.Slots.{GivesSlot}
 use Rattle.seg_ops.specs.declared.plans.Fault.TheVariants as fault
+use Rattle.seg_ops.proofs.NewlyModified.{none-then, only-as, then-none}
 use Rattle.home_pages.specs.Brings.{BringModifies}
 
 pub given-fresh : (old new : AnonSlotsSeen) (maps put : List (Option Map)) (m i s : ℕ) → GivesSlot old new maps put m i s → slice_index_or new.swapped s false ≡ false
@@ -17,19 +18,15 @@ given-fresh old new maps put m i s g = ap (λ (a : AnonSlotsSeen). slice_index_o
 
 -- A PAGE CAME HOME, and its translation was loaded.
 pub loaded-modifies : (old mid new : World) (x : Spot) (name : PageName) → ModifiesOnly (BringModifies mid name (Ok tt)) old mid → ModifiesNone mid new → shown_name new.maps x ≡ Some name → new.anon ≡ mid.anon → ModifiesOnly (FaultModifies new x (Ok fault.Loaded)) old new
-loaded-modifies old mid new x name first last shows anon = λ n k home m.
-    let was = last n k home m in
-    elim (first n k was.0 was.1) [
-      | inl is ↦ inl (shows ∙ ap (λ (o : PageName). Some o) (sym is.0), (is.1.0, is.1.1, ap (λ (a : AnonSlotsSeen). slice_index_or a.swapped is.1.0 false) anon ∙ is.1.2))
-      | inr y ↦ inr y
-    ]
+loaded-modifies old mid new x name first last shows anon =
+    only-as (BringModifies mid name (Ok tt)) (FaultModifies new x (Ok fault.Loaded)) old new
+    (λ n is. (shows ∙ ap (λ (o : PageName). Some o) (sym is.0), (is.1.0, is.1.1, ap (λ (a : AnonSlotsSeen). slice_index_or a.swapped is.1.0 false) anon ∙ is.1.2)))
+    (then-none (BringModifies mid name (Ok tt)) old mid new first last)
 
 -- THE PAGE OF A SLOT WAS MADE, and its translation loaded.
 pub made-modifies : (old freed made new : World) (x : Spot) (s : ℕ) → ModifiesNone old freed → ModifiesOnly (λ n. n ≡ slot_name s) freed made → ModifiesNone made new → shown_name new.maps x ≡ Some (slot_name s)
     → slice_index_or new.anon.swapped s false ≡ false → ModifiesOnly (FaultModifies new x (Ok fault.Loaded)) old new
-made-modifies old freed made new x s first makes last shows unpushed = λ n k home m.
-    let was = last n k home m in
-    elim (makes n k was.0 was.1) [
-      | inl e ↦ inl (shows ∙ ap (λ (o : PageName). Some o) (sym e), (s, e, unpushed))
-      | inr y ↦ inr (first n k y.0 y.1)
-    ]
+made-modifies old freed made new x s first makes last shows unpushed =
+    only-as (λ n. n ≡ slot_name s) (FaultModifies new x (Ok fault.Loaded)) old new
+    (λ n e. (shows ∙ ap (λ (o : PageName). Some o) (sym e), (s, e, unpushed)))
+    (none-then (λ n. n ≡ slot_name s) old freed new first (then-none (λ n. n ≡ slot_name s) freed made new makes last))

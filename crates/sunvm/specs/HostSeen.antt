@@ -1,6 +1,7 @@
 -- What contracts see of the program's rack and its disks. Inside: no clause of `run` cites this.
 use Rattle.std.specs.Prelude.{ℕ}
 use Rattle.disk_file.specs.block_device.DiskSeen.{DiskSeen, HasBlocks}
+use Rattle.disk_file.specs.FileDiskLook.{file_disk_seen}
 use Rattle.disk_file.specs.FileDiskSeen.{file_disk_as_disk}
 use Rattle.sunvm.specs.BlankDisks.{blank_disk_seen, blank_disk_has_blocks}
 use Rattle.sunvm.specs.declared.host_disk.HostDisk.{HostDisk}
@@ -14,7 +15,7 @@ pub record HostRackSeen : Type 0 where
 -- A disk in memory tells its content, and one over a file doesn't.
 abbrev pub host_disk_seen : HostDisk → DiskSeen
 host_disk_seen (Blank disk) = blank_disk_seen disk.value
-host_disk_seen (Path disk) = file_disk_as_disk disk
+host_disk_seen (Path disk) = file_disk_as_disk (file_disk_seen disk)
 
 -- What it tells is blocks of 4096 bytes.
 pub host_disk_has_blocks : (d : HostDisk) → HasBlocks (host_disk_seen d).content (host_disk_seen d).size

@@ -52,7 +52,7 @@ fn state(slots: &AnonSlots, slot: u32) -> Option<(u32, bool)> {
     }
 }
 
-#[derive(Clone, Copy, Debug)]
+#[derive(Clone, Copy)]
 enum Act {
     Reserve(u32),
     Unreserve(u32),
@@ -66,7 +66,7 @@ enum Act {
     Totals,
 }
 
-#[derive(Clone, Copy, PartialEq, Eq, Debug)]
+#[derive(Clone, Copy, PartialEq, Eq)]
 enum Told {
     /// Whether so many could be reserved, and the reservation then.
     Reserved(bool, u32),
@@ -102,7 +102,7 @@ fn make_all(slots: &mut AnonSlots, acts: &[(Act, Told)]) -> Result<(), Fail> {
     for (place, &(act, told)) in acts.iter().enumerate() {
         let made = tell(slots, act);
         if made != told {
-            return Err(Fail::new(format_args!("{place}: {act:?} is told {made:?}")));
+            return Err(Fail::new(format_args!("act {place} is told something else")));
         }
     }
     Ok(())

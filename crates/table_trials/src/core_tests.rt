@@ -20,7 +20,7 @@ struct Frames {
     ghost three: { length core.frames ≡ 3 },
 }
 
-#[derive(Clone, Copy, Debug)]
+#[derive(Clone, Copy)]
 enum Act {
     /// Whether all bytes of a frame are this one.
     IsFull(u32, u8),
@@ -40,7 +40,7 @@ enum Act {
     IsWhole([u8; 3]),
 }
 
-#[derive(Clone, Copy, PartialEq, Eq, Debug)]
+#[derive(Clone, Copy, PartialEq, Eq)]
 enum Told {
     Yes,
     /// The frame isn't at home, or has other bytes.
@@ -164,7 +164,7 @@ fn make_all(rt: &impl Threads, frames: &mut Frames, acts: &[(Act, Told)]) -> Res
     for (place, &(act, told)) in acts.iter().enumerate() {
         let made = frames.make(rt, act);
         if made != told {
-            return Err(Fail::new(format_args!("{place}: {act:?} is told {made:?}")));
+            return Err(Fail::new(format_args!("act {place} is told something else")));
         }
     }
     Ok(())

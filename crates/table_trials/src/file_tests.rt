@@ -33,7 +33,7 @@ fn info(
     })
 }
 
-#[derive(Clone, Copy, Debug)]
+#[derive(Clone, Copy)]
 enum Act {
     /// A file more, of this name, with one extent from this block of so many pages, and so many bytes long.
     Add(&'static [u8], u32, u32, u32),
@@ -56,7 +56,7 @@ enum Act {
     DiskBlocks,
 }
 
-#[derive(Clone, Copy, PartialEq, Eq, Debug)]
+#[derive(Clone, Copy, PartialEq, Eq)]
 enum Told {
     Number(Option<u32>),
     Blanks([bool; 3]),
@@ -179,7 +179,7 @@ fn make_all(files: &mut Files, alloc: Global, acts: &[(Act, Told)]) -> Result<()
     for (place, &(act, told)) in acts.iter().enumerate() {
         let made = make(files, alloc, act)?;
         if made != told {
-            return Err(Fail::new(format_args!("{place}: {act:?} is told {made:?}")));
+            return Err(Fail::new(format_args!("act {place} is told something else")));
         }
     }
     Ok(())

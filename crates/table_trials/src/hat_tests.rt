@@ -12,7 +12,7 @@ struct Pool {
     ghost four: { hat.frames ≡ 4 },
 }
 
-#[derive(Clone, Copy, Debug)]
+#[derive(Clone, Copy)]
 enum Act {
     /// Loads a translation of a page of a space to a frame, writable or not. The page then leads there.
     Load(u32, u32, u32, bool),
@@ -27,7 +27,7 @@ enum Act {
     PageSync(u32),
 }
 
-#[derive(Clone, Copy, PartialEq, Eq, Debug)]
+#[derive(Clone, Copy, PartialEq, Eq)]
 enum Told {
     /// What gave way, or was unloaded.
     Gave(Option<Dropped>),
@@ -117,7 +117,7 @@ fn make_all(pool: &mut Pool, acts: &[(Act, Told)]) -> Result<(), Fail> {
     for (place, &(act, told)) in acts.iter().enumerate() {
         let made = pool.make(act);
         if made != told {
-            return Err(Fail::new(format_args!("{place}: {act:?} is told {made:?}")));
+            return Err(Fail::new(format_args!("act {place} is told something else")));
         }
     }
     Ok(())

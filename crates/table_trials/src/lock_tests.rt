@@ -12,7 +12,7 @@ struct Rows {
     ghost three: { length locks ≡ 3 },
 }
 
-#[derive(Clone, Copy, Debug)]
+#[derive(Clone, Copy)]
 enum Act {
     /// Locks a frame that nobody holds, for a seat.
     Lock(u32, u32),
@@ -24,6 +24,10 @@ enum Act {
     SetRow(u32, Row),
     /// Notes whether a frame's page was used, and whether it was modified.
     SetBits(u32, bool, bool),
+    /// Notes whether a frame's page was used, and nothing else.
+    SetUsed(u32, bool),
+    /// Adds what translations told of a frame's page: that it was used, and stored into.
+    AddBits(u32, bool, bool),
     Clear(u32),
     /// Looks at a frame's row.
     Row(u32),
@@ -35,7 +39,7 @@ enum Act {
     Bits(u32),
 }
 
-#[derive(Clone, Copy, PartialEq, Debug)]
+#[derive(Clone, Copy, PartialEq)]
 enum Told {
     Yes,
     /// The call's condition doesn't hold.
@@ -104,6 +108,22 @@ impl Rows {
         Told::Yes
     }
 
+    fn set_used(&mut self, frame: u32, referenced: bool) -> Told {
+        if frame >= 3 {
+            return Told::No;
+        }
+        self.locks.set_used(frame, referenced);
+        Told::Yes
+    }
+
+    fn add_bits(&mut self, frame: u32, referenced: bool, modified: bool) -> Told {
+        if frame >= 3 {
+            return Told::No;
+        }
+        self.locks.add_bits(frame, referenced, modified);
+        Told::Yes
+    }
+
     fn clear(&mut self, frame: u32) -> Told {
         if frame >= 3 {
             return Told::No;
@@ -150,6 +170,8 @@ impl Rows {
             Act::Unkeep(frame) => self.unkeep(frame),
             Act::SetRow(frame, row) => self.set(frame, row),
             Act::SetBits(frame, referenced, modified) => self.set_bits(frame, referenced, modified),
+            Act::SetUsed(frame, referenced) => self.set_used(frame, referenced),
+            Act::AddBits(frame, referenced, modified) => self.add_bits(frame, referenced, modified),
             Act::Clear(frame) => self.clear(frame),
             Act::Row(frame) => self.row(frame),
             Act::Holder(frame) => self.holder(frame),
@@ -164,7 +186,7 @@ fn make_all(rows: &mut Rows, acts: &[(Act, Told)]) -> Result<(), Fail> {
     for (place, &(act, told)) in acts.iter().enumerate() {
         let made = rows.make(act);
         if made != told {
-            return Err(Fail::new(format_args!("{place}: {act:?} is told {made:?}")));
+            return Err(Fail::new(format_args!("act {place} is told something else")));
         }
     }
     Ok(())
@@ -264,6 +286,46 @@ fn both_bits_are_set_and_cleared(rt: HostRuntime) -> Result<(), Fail> {
             (Act::Bits(0), Told::Bits(false, false)),
             (Act::Clear(0), Told::Yes),
             (Act::Row(0), Told::Row(Row::CLEAR)),
+        ],
+    )
+}
+
+/// The row of a page whose snapshot is on its way.
+const SENT: Row = Row {
+    modified: true,
+    ..Row::CLEAR
+};
+
+const USED: Row = Row {
+    referenced: true,
+    ..SENT
+};
+
+const REWRITTEN: Row = Row {
+    rewritten: true,
+    ..SENT
+};
+
+#[test]
+fn a_page_that_was_sent_counts_as_rewritten_where_a_store_is_told(
+    rt: HostRuntime,
+) -> Result<(), Fail> {
+    make_in_new_rows(
+        rt.alloc(),
+        &[
+            (Act::SetRow(0, SENT), Told::Yes),
+            (Act::AddBits(0, true, false), Told::Yes),
+            (Act::Row(0), Told::Row(USED)),
+            (Act::SetUsed(0, false), Told::Yes),
+            (Act::Row(0), Told::Row(SENT)),
+            (Act::SetUsed(0, true), Told::Yes),
+            (Act::Row(0), Told::Row(USED)),
+            (Act::SetUsed(0, false), Told::Yes),
+            (Act::AddBits(0, false, false), Told::Yes),
+            (Act::Row(0), Told::Row(SENT)),
+            (Act::AddBits(0, false, true), Told::Yes),
+            (Act::Row(0), Told::Row(REWRITTEN)),
+            (Act::Row(1), Told::Row(Row::CLEAR)),
         ],
     )
 }

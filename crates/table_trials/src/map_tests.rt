@@ -89,7 +89,7 @@ fn shape(maps: &AnonMaps, map: u32) -> Shape {
     }
 }
 
-#[derive(Clone, Copy, Debug)]
+#[derive(Clone, Copy)]
 enum Act {
     Make(u32),
     Hold(u32),
@@ -106,7 +106,7 @@ enum Act {
     Pages(u32),
 }
 
-#[derive(Clone, Copy, PartialEq, Eq, Debug)]
+#[derive(Clone, Copy, PartialEq, Eq)]
 enum Told {
     Number(u32),
     Holders(Option<u32>),
@@ -142,7 +142,7 @@ fn make_all(maps: &mut AnonMaps, acts: &[(Act, Told)]) -> Result<(), Fail> {
     for (place, &(act, told)) in acts.iter().enumerate() {
         let made = make(maps, act)?;
         if made != told {
-            return Err(Fail::new(format_args!("{place}: {act:?} is told {made:?}")));
+            return Err(Fail::new(format_args!("act {place} is told something else")));
         }
     }
     Ok(())

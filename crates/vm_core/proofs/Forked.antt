@@ -44,6 +44,7 @@ use Rattle.fault_entry.specs.seg_vn.declared.attempt.Attempt.TheVariants.{Done}
 use Rattle.fault_entry.proofs.home_pages.Replacements.{none-replaced}
 use Rattle.fault_entry.proofs.home_pages.Takes.{takes-none}
 use Rattle.proc_calls.specs.Forks.{DoesFork, IsCountedFork, IsForked, RefusesFork, fork_entry}
+use Rattle.fault_entry.specs.vm_world.declared.sync_start.SyncStart.{SyncStart}
 use Rattle.vm_core.specs.Calls.{AnswersCall, IsDone, SlotsAfterCall, after_answer}
 use Rattle.vm_core.specs.Fits.{FitsAt}
 use Rattle.vm_core.specs.Forks.{after_fork, born_after, starts_after}
@@ -122,17 +123,17 @@ pub child-absent : (opening : Flat) (s : KernelState) (seats : Seats) (p child :
 child-absent opening s seats p child fit may = none-of (finite.get s.memory.spaces child) (λ here. let z : false ≡ true = sym may.1 ∙ fit.births.alive child here in cc)
 
 -- THE STARTS OF SYNCS: that of the process is dropped, and the child's
-starts-born : (syncs : List (Option ℕ)) (p child cleared : ℕ) → 1 ≤ p → p ≤ length syncs → 1 ≤ child → child ≤ length syncs
+starts-born : (syncs : List (Option SyncStart)) (p child cleared : ℕ) → 1 ≤ p → p ≤ length syncs → 1 ≤ child → child ≤ length syncs
     → StartsAfter (fork_entry p child reply.Done cleared) syncs (slice_set (slice_set syncs (child - 1) None) (p - 1) None)
 starts-born syncs p child cleared first last born placed t b has =
-    let mid : List (Option ℕ) = slice_set syncs (child - 1) None in
+    let mid : List (Option SyncStart) = slice_set syncs (child - 1) None in
     let count : length mid ≡ length syncs = length-set syncs (child - 1) None in
     elim (cases_eq t (p - 1)) [
-      | inl same ↦ absurd (let z : ◌≡◌ {A = Option ℕ} None (Some b) = sym (ap (λ (k : ℕ). slice_index_or (slice_set mid (p - 1) None) k None) same ∙ get_or-set_same mid (p - 1) None None (omega (arith, first, last, count))) ∙ has in cc)
+      | inl same ↦ absurd (let z : ◌≡◌ {A = Option SyncStart} None (Some b) = sym (ap (λ (k : ℕ). slice_index_or (slice_set mid (p - 1) None) k None) same ∙ get_or-set_same mid (p - 1) None None (omega (arith, first, last, count))) ∙ has in cc)
       | inr ne ↦
           let kept = sym (get_or-set_other mid (p - 1) t None None ne) ∙ has in
           elim (cases_eq t (child - 1)) [
-            | inl same ↦ absurd (let z : ◌≡◌ {A = Option ℕ} None (Some b) = sym (ap (λ (k : ℕ). slice_index_or mid k None) same ∙ get_or-set_same syncs (child - 1) None None (omega (arith, born, placed))) ∙ kept in cc)
+            | inl same ↦ absurd (let z : ◌≡◌ {A = Option SyncStart} None (Some b) = sym (ap (λ (k : ℕ). slice_index_or mid k None) same ∙ get_or-set_same syncs (child - 1) None None (omega (arith, born, placed))) ∙ kept in cc)
             | inr far ↦
                 let mine : (p == suc t) ≡ false = ne_eqb p (suc t) (λ e. ne (omega (arith, e))) in
                 let its : (child == suc t) ≡ false = ne_eqb child (suc t) (λ e. far (omega (arith, e))) in
@@ -167,29 +168,29 @@ module _ (s : KernelState) (m : Memory) (seat p child : ℕ) (fits : FitsAt s se
   locks : (r : Reply) → LocksAfter (entry r) s.calls s.calls
   locks r = locks-same s.history s.calls s.syncs seat p s.pending (Fork child) r fits.2.calls p-is (try.follows r s.pending) refl
 
-  abbrev made : (born : set.FinSet nat_cmp) (r : Reply) (syncs : List (Option ℕ)) → KernelState
+  abbrev made : (born : set.FinSet nat_cmp) (r : Reply) (syncs : List (Option SyncStart)) → KernelState
   made born r syncs = with_entry_made (record s { memory = m; born = born }) (entry r) s.calls syncs
 
-  is-done : (born : set.FinSet nat_cmp) (r : Reply) (syncs : List (Option ℕ)) → IsPlainReply r → ((b : set.FinSet nat_cmp) (notes : Notes) → (effect (flat_memory s.memory b notes) p (Fork child)).reply ≡ r) → StartsAfter (entry r) s.syncs syncs
+  is-done : (born : set.FinSet nat_cmp) (r : Reply) (syncs : List (Option SyncStart)) → IsPlainReply r → ((b : set.FinSet nat_cmp) (notes : Notes) → (effect (flat_memory s.memory b notes) p (Fork child)).reply ≡ r) → StartsAfter (entry r) s.syncs syncs
       → m.world.store.bays ≡ s.memory.world.store.bays → IsDone s (made born r syncs) p (Fork child) r
   is-done born r syncs plain due starts bays = record {
     mid = s.memory.world;
     cleared = s.pending;
     adds = record { history = refl; pending = refl; locks = locks r; starts = starts };
-    no_error = (plain-own s p r plain).0;
+    no_error = (plain-own s p (Fork child) r plain).0;
     refusal = λ b notes. ap refusal_in (due b notes);
-    start = (plain-own s p r plain).1;
+    start = (plain-own s p (Fork child) r plain).1;
     clean = λ from name is wants. absurd (subst IsPlainReply is plain);
     takes = takes-none s.memory.world s.memory.world s.memory.spaces s.pending (keeps-same s.memory.world s.memory.spaces fits.2.memory);
     replaced = none-replaced s.memory.world m.world;
-    modified = λ name frame home is. inr (modified name frame home is);
+    modified = record { modified = λ name frame home is. inr (modified.modified name frame home is); rewritten = λ name frame home is. inr (modified.rewritten name frame home is) };
     bays = bays;
     plan = refl;
   }
 
   forks-done : DoesFork s.memory m p child → IsCountedFork s.memory m.world.anon.counts p reply.Done → ForkTold s (after_answer (after_fork s m child reply.Done) seat p (Fork child) (Done reply.Done)) seat p (Fork child) (Done reply.Done)
   forks-done does counted =
-      let syncs : List (Option ℕ) = slice_set (slice_set s.syncs (child - 1) None) (p - 1) None in
+      let syncs : List (Option SyncStart) = slice_set (slice_set s.syncs (child - 1) None) (p - 1) None in
       let number = child-is s.parents child p try.bears.0 in
       let own = p-is in
       let starts = starts-born s.syncs p child s.pending (omega (arith, own)) (omega (arith, own, seated)) number.0 placed in
@@ -214,7 +215,7 @@ module _ (s : KernelState) (m : Memory) (seat p child : ℕ) (fits : FitsAt s se
   forks-refused : RefusesFork s.memory m p child → m.world.anon.counts ≡ s.memory.world.anon.counts
       → ForkTold s (after_answer (after_fork s m child (reply.Refused NoSwap)) seat p (Fork child) (Done (reply.Refused NoSwap))) seat p (Fork child) (Done (reply.Refused NoSwap))
   forks-refused refuses counted =
-      let syncs : List (Option ℕ) = slice_set s.syncs (p - 1) None in
+      let syncs : List (Option SyncStart) = slice_set s.syncs (p - 1) None in
       let own = p-is in
       let place : p - 1 ≡ seat = omega (arith, own) in
       let starts : StartsAfter (entry (reply.Refused NoSwap)) s.syncs syncs = subst (λ (k : ℕ). StartsAfter (entry (reply.Refused NoSwap)) s.syncs (slice_set s.syncs k None)) (sym place) (starts-dropped s.syncs seat (entry (reply.Refused NoSwap)) own seated (λ q. refl)) in
@@ -237,7 +238,7 @@ pub record StaysByFork (s t : KernelState) : Type 0 where
   pub entries : t.entries ≡ s.entries
   pub seats : length t.syncs ≡ length s.syncs
 
-pub count-starts : (syncs : List (Option ℕ)) (child : ℕ) (r : Reply) → length (starts_after syncs child r) ≡ length syncs
+pub count-starts : (syncs : List (Option SyncStart)) (child : ℕ) (r : Reply) → length (starts_after syncs child r) ≡ length syncs
 count-starts syncs child reply.Done = length-set syncs (child - 1) None
 count-starts syncs child r = refl
 
@@ -263,14 +264,14 @@ fork-told s mid t seat p child call a r is fits try formed done rest new forked 
 pub born-noted : (marks : List Bool) (child : ℕ) (r : Reply) → r ≡ reply.Done → 1 ≤ child → child ≤ length marks → born_of (slice_set marks (child - 1) true) ≡ born_after (born_of marks) child r
 born-noted marks child r is first last = born-marked marks child first last ∙ ap (born_after (born_of marks) child) (sym is)
 
-pub starts-noted : (syncs : List (Option ℕ)) (child : ℕ) (r : Reply) → r ≡ reply.Done → slice_set syncs (child - 1) None ≡ starts_after syncs child r
+pub starts-noted : (syncs : List (Option SyncStart)) (child : ℕ) (r : Reply) → r ≡ reply.Done → slice_set syncs (child - 1) None ≡ starts_after syncs child r
 starts-noted syncs child r is = ap (starts_after syncs child) (sym is)
 
 pub born-stays : (marks : List Bool) (child : ℕ) (r : Reply) → r ≢ reply.Done → born_of marks ≡ born_after (born_of marks) child r
 born-stays marks child reply.Done other = absurd (other refl)
 born-stays marks child r other = refl
 
-pub starts-stay : (syncs : List (Option ℕ)) (child : ℕ) (r : Reply) → r ≢ reply.Done → syncs ≡ starts_after syncs child r
+pub starts-stay : (syncs : List (Option SyncStart)) (child : ℕ) (r : Reply) → r ≢ reply.Done → syncs ≡ starts_after syncs child r
 starts-stay syncs child reply.Done other = absurd (other refl)
 starts-stay syncs child r other = refl
 
@@ -306,7 +307,7 @@ kept-forked old new zeros after entries parents processes marks seats processes'
       record { spaces = omega (arith, a, all); marks = omega (arith, b, marked); seats = omega (arith, c, seated) },
     )
 
-pub forked-as : (s t : KernelState) (m : Memory) (child pending : ℕ) (r : Reply) (born : set.FinSet nat_cmp) (syncs : List (Option ℕ)) → s ≡ t → born ≡ born_after s.born child r → pending ≡ s.pending → syncs ≡ starts_after s.syncs child r
+pub forked-as : (s t : KernelState) (m : Memory) (child pending : ℕ) (r : Reply) (born : set.FinSet nat_cmp) (syncs : List (Option SyncStart)) → s ≡ t → born ≡ born_after s.born child r → pending ≡ s.pending → syncs ≡ starts_after s.syncs child r
     → record s { memory = m; born = born; pending = pending; syncs = syncs } ≡ after_fork t m child r
 forked-as s t m child pending r born syncs same marked tails starts =
     (λ i. record s { memory = m; born = marked i; pending = tails i; syncs = starts i }) ∙ ap (λ (x : KernelState). after_fork x m child r) same

@@ -45,6 +45,7 @@ use Rattle.fault_entry.specs.vm_world.WorldSteps.{WorldStep, returns}
 use Rattle.fault_entry.specs.vm_world.ZeroObjects.{KnowsZeros}
 use Rattle.fault_entry.proofs.vm_world.Failures.{failure_rule}
 use Rattle.fault_entry.proofs.vm_world.StateSteps.{state_rule}
+use Rattle.fault_entry.specs.vm_world.declared.sync_start.SyncStart.{SyncStart}
 use Rattle.vm_core.specs.Flights.{IsBack, AddsEntry}
 use Rattle.file_calls.specs.Locks.{calls_without, without_seat}
 use Rattle.mark_laws.specs.MarkLaws.{marks_by}
@@ -102,7 +103,7 @@ io-ends (Write file offset line rest) disk before after = refl
 io-ends call disk before after = refl
 
 -- THE LOCKS AFTER A DEVICE ERROR.
-pub locks-after : (H : List Entry) (calls syncs : List (Option ℕ)) (seat p disk before after cleared : ℕ) (call : Call) → CallsFit H calls syncs → p ≡ suc seat → MayFollow H (io_entry p call disk before after cleared)
+pub locks-after : (H : List Entry) (calls : List (Option ℕ)) (syncs : List (Option SyncStart)) (seat p disk before after cleared : ℕ) (call : Call) → CallsFit H calls syncs → p ≡ suc seat → MayFollow H (io_entry p call disk before after cleared)
     → LocksAfter (io_entry p call disk before after cleared) calls (calls_without seat (part_file call) calls)
 locks-after H calls syncs seat p disk before after cleared call fit is follows f t = by_seat (p == suc t) refl
   where
@@ -121,10 +122,10 @@ locks-after H calls syncs seat p disk before after cleared call fit is follows f
         (λ same. absurd (elim (eqb_tells p (suc t)) [ inl y ↦ (let z : true ≡ false = sym y.0 ∙ other in cc) | inr n ↦ n.1 (is ∙ ap suc (sym same)) ]))
 
 -- THE STARTS OF SYNCS AFTER A DEVICE ERROR.
-pub starts-after : (syncs : List (Option ℕ)) (seat p disk before after cleared : ℕ) (call : Call) → p ≡ suc seat → seat < length syncs
+pub starts-after : (syncs : List (Option SyncStart)) (seat p disk before after cleared : ℕ) (call : Call) → p ≡ suc seat → seat < length syncs
     → StartsAfter (io_entry p call disk before after cleared) syncs (slice_set syncs seat None)
 starts-after syncs seat p disk before after cleared call is lt t b has = elim (cases_eq t seat) [
-  | inl same ↦ absurd (let z : ◌≡◌ {A = Option ℕ} None (Some b) = sym (ap (λ (k : ℕ). slice_index_or (slice_set syncs seat None) k None) same ∙ get_or-set_same syncs seat None None lt) ∙ has in cc)
+  | inl same ↦ absurd (let z : ◌≡◌ {A = Option SyncStart} None (Some b) = sym (ap (λ (k : ℕ). slice_index_or (slice_set syncs seat None) k None) same ∙ get_or-set_same syncs seat None None lt) ∙ has in cc)
   | inr ne ↦ (
     elim (eqb_tells p (suc t)) [ inl y ↦ absurd (ne (let z : suc t ≡ suc seat = sym y.1 ∙ is in omega (arith, z))) | inr n ↦ ap (λ (x : Bool). x || false) n.0 ],
     sym (get_or-set_other syncs seat t None None ne) ∙ has,
@@ -249,27 +250,27 @@ module _ (s : KernelState) (new : World) (seat : ℕ) (f : FlightSeen) (step : C
     fits = λ o x here fits. (quiet-at o x sent fits here q).fits o x here fits;
     fixed = (quiet-at opening seats own fit is p).fixed;
     disks = λ o x here fits. (quiet-at o x sent fits here q).disks o x here fits;
-    unkept = λ o x here fits. (quiet-at o x sent fits here q).unkept o x here fits;
+    accounts = λ o x here fits. (quiet-at o x sent fits here q).accounts o x here fits;
     grown = (quiet-at opening seats own fit is p).grown;
     follows = (quiet-at opening seats own fit is p).follows;
   }
 
   -- with the entry of its error
-  failed-at : (opening : Flat) (seats : Seats) (sent : Sent) (q : ℕ) (call : Call) (calls syncs : List (Option ℕ)) → StateFits opening s seats → seats seat ≡ Some sent → IsPerformed sent.note f → sent.of ≡ Some (q, call) → f.outcome ≡ failed
+  failed-at : (opening : Flat) (seats : Seats) (sent : Sent) (q : ℕ) (call : Call) (calls : List (Option ℕ)) (syncs : List (Option SyncStart)) → StateFits opening s seats → seats seat ≡ Some sent → IsPerformed sent.note f → sent.of ≡ Some (q, call) → f.outcome ≡ failed
       → LocksAfter (io_entry q call f.number f.before f.disk.faults s.pending) s.calls calls → StartsAfter (io_entry q call f.number f.before f.disk.faults s.pending) s.syncs syncs → length syncs ≡ length s.syncs
       → IsEvent seat s (Some sent) (with_entry_made landed (io_entry q call f.number f.before f.disk.faults s.pending) calls syncs) None
   failed-at opening seats sent q call calls syncs fit is p for_call bad locks starts count =
       subst (λ (x : KernelState). IsEvent seat s (Some sent) (with_entry_made x (io_entry q call f.number f.before f.disk.faults s.pending) calls syncs) None) (returned sent p)
       (failure_rule.fails s new (λ name. false) s.pending seat q call sent f calls syncs (world-step opening seats sent fit is p) pends for_call (fit.plans.sent seat sent (q, call) is for_call).own (comes sent p) bad locks starts count)
 
-  pub failed-end : (opening : Flat) (seats : Seats) (own : Sent) (q : ℕ) (call : Call) (calls syncs : List (Option ℕ)) → StateFits opening s seats → seats seat ≡ Some own → IsBack own f (Some (q, call)) → f.outcome ≡ failed
+  pub failed-end : (opening : Flat) (seats : Seats) (own : Sent) (q : ℕ) (call : Call) (calls : List (Option ℕ)) (syncs : List (Option SyncStart)) → StateFits opening s seats → seats seat ≡ Some own → IsBack own f (Some (q, call)) → f.outcome ≡ failed
       → LocksAfter (io_entry q call f.number f.before f.disk.faults s.pending) s.calls calls → StartsAfter (io_entry q call f.number f.before f.disk.faults s.pending) s.syncs syncs → length syncs ≡ length s.syncs
       → (sent : Sent) → IsBack sent f (Some (q, call)) → IsEvent seat s (Some sent) (with_entry_made landed (io_entry q call f.number f.before f.disk.faults s.pending) calls syncs) None
   failed-end opening seats own q call calls syncs fit is b bad locks starts count sent c = record {
     fits = λ o x here fits. (failed-at o x sent q call calls syncs fits here c.performed c.same bad locks starts count).fits o x here fits;
     fixed = (failed-at opening seats own q call calls syncs fit is b.performed b.same bad locks starts count).fixed;
     disks = λ o x here fits. (failed-at o x sent q call calls syncs fits here c.performed c.same bad locks starts count).disks o x here fits;
-    unkept = λ o x here fits. (failed-at o x sent q call calls syncs fits here c.performed c.same bad locks starts count).unkept o x here fits;
+    accounts = λ o x here fits. (failed-at o x sent q call calls syncs fits here c.performed c.same bad locks starts count).accounts o x here fits;
     grown = (failed-at opening seats own q call calls syncs fit is b.performed b.same bad locks starts count).grown;
     follows = (failed-at opening seats own q call calls syncs fit is b.performed b.same bad locks starts count).follows;
   }
@@ -281,7 +282,7 @@ pub ended : (s u v w : KernelState) (new : World) (seat p : ℕ) (call : Call) (
 ended s u v w new seat p call reply at_u at_v at_w =
     at_w ∙ ap (λ (x : KernelState). with_next_entry x (record { process = p; call = call; reply = reply; cleared = x.pending })) (at_v ∙ ap (λ (x : KernelState). record x { calls = calls_without seat (part_file call) x.calls }) at_u)
 
-pub added : (s w : KernelState) (seat : ℕ) (f : FlightSeen) (new : World) (e : Entry) (calls syncs : List (Option ℕ)) → w ≡ with_entry_made (after_step (marked s seat f) new s.pending) e calls syncs → LocksAfter e s.calls calls → StartsAfter e s.syncs syncs → AddsEntry s w e
+pub added : (s w : KernelState) (seat : ℕ) (f : FlightSeen) (new : World) (e : Entry) (calls : List (Option ℕ)) (syncs : List (Option SyncStart)) → w ≡ with_entry_made (after_step (marked s seat f) new s.pending) e calls syncs → LocksAfter e s.calls calls → StartsAfter e s.syncs syncs → AddsEntry s w e
 added s w seat f new e calls syncs is locks starts = subst (λ (x : KernelState). AddsEntry s x e) (sym is) (record { history = refl; pending = refl; locks = locks; starts = starts })
 
 -- a process's seat

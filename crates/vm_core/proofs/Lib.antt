@@ -16,3 +16,4 @@ pub mod Hands
 pub use Rattle.fault_entry.proofs.vm_world as vm_world
 pub use Rattle.fault_entry.proofs.page_store as page_store
 pub use Rattle.kernel_close.proofs as kernel_close
+pub use Rattle.mark_laws.proofs as mark_laws

@@ -27,9 +27,10 @@ use Rattle.fault_entry.specs.vm_world.HistoryFits.{CallsFit}
 use Rattle.fault_entry.specs.vm_world.ServingLaws.{done_entry}
 use Rattle.fault_entry.proofs.vm_world.FileLocks.{file_locks_law}
 use Rattle.file_calls.specs.Locks.{IsAnothers}
+use Rattle.fault_entry.specs.vm_world.declared.sync_start.SyncStart.{SyncStart}
 
 -- What a seat has between two parts is the file of its next call.
-pub own-part : (H : List Entry) (calls syncs : List (Option ℕ)) (seat p cleared f : ℕ) (call : Call) (r : Reply) → CallsFit H calls syncs → p ≡ suc seat → MayFollow H (done_entry p call r cleared) → slice_index_or calls f None ≡ Some seat
+pub own-part : (H : List Entry) (calls : List (Option ℕ)) (syncs : List (Option SyncStart)) (seat p cleared f : ℕ) (call : Call) (r : Reply) → CallsFit H calls syncs → p ≡ suc seat → MayFollow H (done_entry p call r cleared) → slice_index_or calls f None ≡ Some seat
     → part_file call ≡ Some f
 own-part H calls syncs seat p cleared f call r fit is follows had = of-last (last_entry p H) (subst (λ (q : ℕ). IsSomeAnd (last_entry q H) (IsOpenPart f)) (sym is) ((fit.files f seat).0 had)) follows
   where
@@ -39,7 +40,7 @@ own-part H calls syncs seat p cleared f call r fit is follows had = of-last (las
     of-last (Some d) here (inr next) = next-file d.call d.reply next.0 call next.1 ∙ here.0
 
 -- WHOSE CALLS OF FILES ARE BETWEEN TWO PARTS after a call that is done: as its reply says, where no other seat has its file.
-pub locks-done : (H : List Entry) (calls syncs : List (Option ℕ)) (seat p cleared : ℕ) (call : Call) (r : Reply) → CallsFit H calls syncs → p ≡ suc seat → MayFollow H (done_entry p call r cleared)
+pub locks-done : (H : List Entry) (calls : List (Option ℕ)) (syncs : List (Option SyncStart)) (seat p cleared : ℕ) (call : Call) (r : Reply) → CallsFit H calls syncs → p ≡ suc seat → MayFollow H (done_entry p call r cleared)
     → ((f t : ℕ) → part_file call ≡ Some f → slice_index_or calls f None ≡ Some t → t ≡ seat) → ((f : ℕ) → part_file call ≡ Some f → IsFalse (ends_call call r) → f < length calls)
     → LocksAfter (done_entry p call r cleared) calls (locks_after seat call r calls)
 locks-done H calls syncs seat p cleared call r fit is follows free within =
@@ -47,7 +48,7 @@ locks-done H calls syncs seat p cleared call r fit is follows free within =
     (file_locks_law.after H calls syncs seat cleared call r fit (subst (λ (q : ℕ). MayFollow H (done_entry q call r cleared)) is follows) free within)
 
 -- and as they were, where it is no part
-pub locks-same : (H : List Entry) (calls syncs : List (Option ℕ)) (seat p cleared : ℕ) (call : Call) (r : Reply) → CallsFit H calls syncs → p ≡ suc seat → MayFollow H (done_entry p call r cleared) → part_file call ≡ None
+pub locks-same : (H : List Entry) (calls : List (Option ℕ)) (syncs : List (Option SyncStart)) (seat p cleared : ℕ) (call : Call) (r : Reply) → CallsFit H calls syncs → p ≡ suc seat → MayFollow H (done_entry p call r cleared) → part_file call ≡ None
     → LocksAfter (done_entry p call r cleared) calls calls
 locks-same H calls syncs seat p cleared call r fit is follows none =
     let never : (f : ℕ) → part_file call ≡ Some f → ⊥ = λ f e. let z : ◌≡◌ {A = Option ℕ} None (Some f) = sym none ∙ e in cc in
@@ -64,7 +65,7 @@ part-of call f is = absurd (let z : ◌≡◌ {A = Option ℕ} None (Some f) = i
 pub own-holder : (calls : List (Option ℕ)) (seat f t : ℕ) (call : Call) → ((k : ℕ) → IsAnothers calls seat call k → ⊥) → file_of_call call ≡ Some f → slice_index_or calls f None ≡ Some t → t ≡ seat
 own-holder calls seat f t call free of held = elim (cases_eq t seat) [ inl same ↦ same | inr other ↦ absurd (free t (record { file = f; of = of; held = held; other = other })) ]
 
-pub may-use : (H : List Entry) (calls syncs : List (Option ℕ)) (seat p cleared : ℕ) (call : Call) (r : Reply) → CallsFit H calls syncs → p ≡ suc seat → MayFollow H (done_entry p call r cleared) → ((k : ℕ) → IsAnothers calls seat call k → ⊥)
+pub may-use : (H : List Entry) (calls : List (Option ℕ)) (syncs : List (Option SyncStart)) (seat p cleared : ℕ) (call : Call) (r : Reply) → CallsFit H calls syncs → p ≡ suc seat → MayFollow H (done_entry p call r cleared) → ((k : ℕ) → IsAnothers calls seat call k → ⊥)
     → MayUseFile (done_entry p call r cleared) seat calls
 may-use H calls syncs seat p cleared call r fit is follows free f t of held =
     let mine = own-holder calls seat f t call free of held in

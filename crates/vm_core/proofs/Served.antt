@@ -57,7 +57,9 @@ use Rattle.fault_entry.specs.seg_vn.Serves.{Serves, IsPlainReply}
 use Rattle.fault_entry.proofs.seg_vn.HomeFrames.{home-beside}
 use Rattle.file_calls.specs.Calls.{IsFileAnswer, IsFileReply}
 use Rattle.file_calls.specs.Locks.{IsAnothers, locks_answered}
+use Rattle.fault_entry.specs.vm_world.declared.sync_start.SyncStart.{SyncStart}
 use Rattle.vm_core.specs.Answered.{MarksAfterAnswer, MarksAfterCall, with_marks}
+use Rattle.vm_core.specs.SeatSteps.{AnswersTry}
 use Rattle.vm_core.specs.Calls.{IsOnOwnSpace, ConcernsMappings, IsDone, IsNeeded, IsBusy, IsOwnReply, IsShownAfterCall, SlotsAfterCall, IsHitAfterCall, TakesMemory, AnswersCall, with_memory, with_served, after_answer}
 use Rattle.vm_core.specs.Fits.{FitsAt}
 use Rattle.vm_core.specs.State.{IsSoundKernel}
@@ -135,9 +137,9 @@ no-exit (Sync a len) h exit sync = absurd (sync a len refl)
 no-exit call h exit sync = h
 
 -- THE STARTS OF SYNCS after a call that is done, which bears nobody.
-pub starts-dropped : (syncs : List (Option ℕ)) (seat : ℕ) (e : Entry) → e.process ≡ suc seat → seat < length syncs → ((q : ℕ) → is_birth q e ≡ false) → StartsAfter e syncs (slice_set syncs seat None)
+pub starts-dropped : (syncs : List (Option SyncStart)) (seat : ℕ) (e : Entry) → e.process ≡ suc seat → seat < length syncs → ((q : ℕ) → is_birth q e ≡ false) → StartsAfter e syncs (slice_set syncs seat None)
 starts-dropped syncs seat e is lt bears t b has = elim (cases_eq t seat) [
-  | inl same ↦ absurd (let z : ◌≡◌ {A = Option ℕ} None (Some b) = sym (ap (λ (k : ℕ). slice_index_or (slice_set syncs seat None) k None) same ∙ get_or-set_same syncs seat None None lt) ∙ has in cc)
+  | inl same ↦ absurd (let z : ◌≡◌ {A = Option SyncStart} None (Some b) = sym (ap (λ (k : ℕ). slice_index_or (slice_set syncs seat None) k None) same ∙ get_or-set_same syncs seat None None lt) ∙ has in cc)
   | inr ne ↦ (
     elim (eqb_tells e.process (suc t)) [ inl y ↦ absurd (ne (let z : suc t ≡ suc seat = sym y.1 ∙ is in omega (arith, z))) | inr n ↦ ap (λ (x : Bool). x || is_birth (suc t) e) n.0 ∙ bears (suc t) ],
     sym (get_or-set_other syncs seat t None None ne) ∙ has,
@@ -171,8 +173,8 @@ bears-begun s seat p call bears = search
 try-begun : (s : KernelState) (seat p : ℕ) (call : Call) → CanTry s seat p call → CanTry (with_call_begun s seat call) seat p call
 try-begun s seat p call try = record { own = try.own; alive = try.alive; room = try.room; follows = try.follows; bears = bears-begun s seat p call try.bears }
 
-count-begun : (call : Call) (seat start : ℕ) (syncs : List (Option ℕ)) → length (starts_begun call seat start syncs) ≡ length syncs
-count-begun (Sync a len) seat start syncs = length-set syncs seat (Some start)
+count-begun : (call : Call) (seat start : ℕ) (syncs : List (Option SyncStart)) → length (starts_begun call seat start syncs) ≡ length syncs
+count-begun (Sync a len) seat start syncs = length-set syncs seat (Some (record { from = start; addr = a; length = len }))
 count-begun call seat start syncs = refl
 
 -- WHAT THE FILES' CALLS LET AN ANSWER BE, these being the seats that have them then: a call is done where its file is free, or its own and the call a part, and its entry leaves the seats so; a file's call
@@ -194,12 +196,12 @@ module _ (opening : Flat) (s : KernelState) (seats : Seats) (fit : StateFits ope
   starts reply = starts-dropped s.syncs seat (done_entry p call reply more) p-is lt (λ q. bears-nobody call plain q p more reply)
 
   -- a Sync began where it says
-  began : (reply : Reply) (from : ℕ) → IsOwnReply s p (Done reply) → reply ≡ Synced from → IsStart s.history (length s.history) p from
+  began : (reply : Reply) (from : ℕ) → IsOwnReply s p call (Done reply) → reply ≡ Synced from → IsStart s.history (length s.history) p from
   began reply from own is =
-      subst (λ (k : ℕ). IsStart s.history (length s.history) p k) (sym (own.1 from is ∙ ap (start_of s) try.own))
-      (subst (λ (k : ℕ). IsStart s.history (length s.history) k (start_of s seat)) (sym p-is) (start_rule.began opening s seats seat fit))
+      subst (λ (k : ℕ). IsStart s.history (length s.history) p k) (sym (own.1 from is ∙ ap (λ (k : ℕ). start_of s k call) try.own))
+      (subst (λ (k : ℕ). IsStart s.history (length s.history) k (start_of s seat call)) (sym p-is) (start_rule.began opening s seats seat call fit))
 
-  pub done-event : (reply : Reply) (n : MarksSeen) → IsWellFormed call → ServesDone s.memory m s.pending more p call reply → FilesLet s calls seat p call (Done reply) → StaysAlive m p call → IsOwnReply s p (Done reply)
+  pub done-event : (reply : Reply) (n : MarksSeen) → IsWellFormed call → ServesDone s.memory m s.pending more p call reply → FilesLet s calls seat p call (Done reply) → StaysAlive m p call → IsOwnReply s p call (Done reply)
       → MarksAfterReply s.memory m p call reply (length s.history) s.marks n → IsEvent seat s None (made reply n) None
   done-event reply n formed serves lets alive own marks = serving_law.done s m seat p more call reply calls (slice_set s.syncs seat None) n try serves alive (record {
     formed = formed;
@@ -209,7 +211,7 @@ module _ (opening : Flat) (s : KernelState) (seats : Seats) (fit : StateFits ope
     file = lets.0;
   }) (lets.1 more) (starts reply) (length-set s.syncs seat None) marks
 
-  pub done-answer : (reply : Reply) (n : MarksSeen) → ServesDone s.memory m s.pending more p call reply → FilesLet s calls seat p call (Done reply) → IsOwnReply s p (Done reply) → IsDone s (made reply n) p call reply
+  pub done-answer : (reply : Reply) (n : MarksSeen) → ServesDone s.memory m s.pending more p call reply → FilesLet s calls seat p call (Done reply) → IsOwnReply s p call (Done reply) → IsDone s (made reply n) p call reply
   done-answer reply n serves lets own = record {
     mid = serves.mid;
     cleared = more;
@@ -233,7 +235,7 @@ module _ (opening : Flat) (s : KernelState) (seats : Seats) (fit : StateFits ope
   pub need-event : (plan : Plan) → ServesNeed s.memory m s.pending more p call plan → IsEvent seat s None (after_need (with_call_begun s seat call) m more seat p call plan) None
   need-event plan serves =
       event_law.joined seat s (with_call_begun s seat call) (after_need (with_call_begun s seat call) m more seat p call plan) None None None begun-event
-      (serving_law.need (with_call_begun s seat call) m seat p more call plan (try-begun s seat p call try) (let count = count-begun call seat (start_of s seat) s.syncs in omega (arith, lt, count)) serves)
+      (serving_law.need (with_call_begun s seat call) m seat p more call plan (try-begun s seat p call try) (let count = count-begun call seat (start_of s seat call) s.syncs in omega (arith, lt, count)) serves)
 
   pub need-answer : (plan : Plan) → ServesNeed s.memory m s.pending more p call plan → IsNeeded s (after_need (with_call_begun s seat call) m more seat p call plan) seat p call plan
   need-answer plan serves = record {
@@ -265,7 +267,7 @@ pub record Concludes (s t : KernelState) (seat p : ℕ) (call : Call) (a : Attem
   pub event : IsEvent seat s None t None
 
 pub concludes : (opening : Flat) (s : KernelState) (seats : Seats) (m : Memory) (calls : List (Option ℕ)) (n : MarksSeen) (seat p more : ℕ) (call : Call) (a : Attempt) → StateFits opening s seats → seats seat ≡ None → ((child : ℕ) → call ≢ Fork child) → CanTry s seat p call → IsWellFormed call
-    → Serves s.memory m s.pending more s.calls p call a → FilesLet s calls seat p call a → StaysAlive m p call → IsOwnReply s p a → MarksAfterAnswer s.memory m p call a (length s.history) s.marks n → seat < length s.syncs
+    → Serves s.memory m s.pending more s.calls p call a → FilesLet s calls seat p call a → StaysAlive m p call → IsOwnReply s p call a → MarksAfterAnswer s.memory m p call a (length s.history) s.marks n → seat < length s.syncs
     → Concludes s (after_answer (with_marks (with_served s m more calls) n) seat p call a) seat p call a
 concludes opening s seats m calls n seat p more call (Done reply) fit idle plain try formed serves lets alive own marks lt =
     let p_is = seat-is s seat p call try in
@@ -336,28 +338,28 @@ kept-served old new zeros after pending more calls p call (Need plan) entries se
 kept-served old new zeros after pending more calls p call (Busy h) entries seats k known s = kept-moved old new zeros after entries seats k known s.first.step.bays s.first.step.frames
 
 -- A reply of an access is its own.
-pub plain-own : (s : KernelState) (p : ℕ) (r : Reply) → IsPlainReply r → IsOwnReply s p (Done r)
-plain-own s p (reply.Io disk before after) h = absurd h
-plain-own s p (reply.Synced from) h = absurd h
-plain-own s p reply.Done h = (refl, λ b e. absurd (let z : reply.Done ≡ reply.Synced b = e in cc))
-plain-own s p (reply.Word n) h = (refl, λ b e. absurd (let z : reply.Word n ≡ reply.Synced b = e in cc))
-plain-own s p (reply.Mapped n) h = (refl, λ b e. absurd (let z : reply.Mapped n ≡ reply.Synced b = e in cc))
-plain-own s p (reply.Bytes l) h = (refl, λ b e. absurd (let z : reply.Bytes l ≡ reply.Synced b = e in cc))
-plain-own s p (reply.Signal x) h = (refl, λ b e. absurd (let z : reply.Signal x ≡ reply.Synced b = e in cc))
-plain-own s p (reply.Refused x) h = (refl, λ b e. absurd (let z : reply.Refused x ≡ reply.Synced b = e in cc))
+pub plain-own : (s : KernelState) (p : ℕ) (call : Call) (r : Reply) → IsPlainReply r → IsOwnReply s p call (Done r)
+plain-own s p call (reply.Io disk before after) h = absurd h
+plain-own s p call (reply.Synced from) h = absurd h
+plain-own s p call reply.Done h = (refl, λ b e. absurd (let z : reply.Done ≡ reply.Synced b = e in cc))
+plain-own s p call (reply.Word n) h = (refl, λ b e. absurd (let z : reply.Word n ≡ reply.Synced b = e in cc))
+plain-own s p call (reply.Mapped n) h = (refl, λ b e. absurd (let z : reply.Mapped n ≡ reply.Synced b = e in cc))
+plain-own s p call (reply.Bytes l) h = (refl, λ b e. absurd (let z : reply.Bytes l ≡ reply.Synced b = e in cc))
+plain-own s p call (reply.Signal x) h = (refl, λ b e. absurd (let z : reply.Signal x ≡ reply.Synced b = e in cc))
+plain-own s p call (reply.Refused x) h = (refl, λ b e. absurd (let z : reply.Refused x ≡ reply.Synced b = e in cc))
 
 synced-is : (b k : ℕ) → reply.Synced b ≡ reply.Synced k → k ≡ b
 synced-is b k e = let z : reply.Synced b ≡ reply.Synced k = e in cc
 
-pub own-reply : (s : KernelState) (m : Memory) (p : ℕ) (call : Call) (a : Attempt) → MayBeAnswered m p call a → IsOwnReply s p a
-own-reply s m p call (Done r) may = plain-own s p r may
+pub own-reply : (s : KernelState) (m : Memory) (p : ℕ) (call : Call) (a : Attempt) → MayBeAnswered m p call a → IsOwnReply s p call a
+own-reply s m p call (Done r) may = plain-own s p call r may
 own-reply s m p call (Need plan) may = tt
 own-reply s m p call (Busy h) may = tt
 
-at-once-own : (s : KernelState) (p : ℕ) (a : Attempt) → mmap.IsDoneAtOnce a → IsOwnReply s p a
-at-once-own s p (Done r) may = plain-own s p r may
-at-once-own s p (Need plan) may = absurd may
-at-once-own s p (Busy h) may = absurd may
+at-once-own : (s : KernelState) (p : ℕ) (call : Call) (a : Attempt) → mmap.IsDoneAtOnce a → IsOwnReply s p call a
+at-once-own s p call (Done r) may = plain-own s p call r may
+at-once-own s p call (Need plan) may = absurd may
+at-once-own s p call (Busy h) may = absurd may
 
 -- So is that of a call that changes mappings.
 pub changing-is : (call : Call) → mmap.ChangesMappings call → mmap.IsMappingCall call
@@ -366,29 +368,29 @@ changing-is (Unmap addr len) is = tt
 changing-is (Protect addr len prot) is = tt
 changing-is call is = absurd is
 
-pub mapped-own : (s : KernelState) (p from : ℕ) (call : Call) (a : Attempt) → mmap.ChangesMappings call → mmap.IsMappingAnswer call from a → IsOwnReply s p a
-mapped-own s p from (Map place len prot kind o offset) a is may = at-once-own s p a may
-mapped-own s p from (Unmap addr len) a is may = at-once-own s p a may
-mapped-own s p from (Protect addr len prot) a is may = at-once-own s p a may
+pub mapped-own : (s : KernelState) (p from : ℕ) (call : Call) (a : Attempt) → mmap.ChangesMappings call → mmap.IsMappingAnswer call from a → IsOwnReply s p call a
+mapped-own s p from (Map place len prot kind o offset) a is may = at-once-own s p (Map place len prot kind o offset) a may
+mapped-own s p from (Unmap addr len) a is may = at-once-own s p (Unmap addr len) a may
+mapped-own s p from (Protect addr len prot) a is may = at-once-own s p (Protect addr len prot) a may
 mapped-own s p from call a is may = absurd is
 
 -- So is a Sync's.
-pub synced-own : (s : KernelState) (p from : ℕ) (a : Attempt) → from ≡ start_of s (seat_of p) → mmap.IsSyncAnswer from a → IsOwnReply s p a
-synced-own s p from (Done (reply.Synced b)) is may = (refl, λ k e. synced-is b k e ∙ may ∙ is)
-synced-own s p from (Done (reply.Io disk before after)) is may = absurd may
-synced-own s p from (Done reply.Done) is may = plain-own s p reply.Done may
-synced-own s p from (Done (reply.Word n)) is may = plain-own s p (reply.Word n) may
-synced-own s p from (Done (reply.Mapped n)) is may = plain-own s p (reply.Mapped n) may
-synced-own s p from (Done (reply.Bytes l)) is may = plain-own s p (reply.Bytes l) may
-synced-own s p from (Done (reply.Signal x)) is may = plain-own s p (reply.Signal x) may
-synced-own s p from (Done (reply.Refused x)) is may = plain-own s p (reply.Refused x) may
-synced-own s p from (Need plan) is may = tt
-synced-own s p from (Busy h) is may = tt
+pub synced-own : (s : KernelState) (p from : ℕ) (call : Call) (a : Attempt) → from ≡ start_of s (seat_of p) call → mmap.IsSyncAnswer from a → IsOwnReply s p call a
+synced-own s p from call (Done (reply.Synced b)) is may = (refl, λ k e. synced-is b k e ∙ may ∙ is)
+synced-own s p from call (Done (reply.Io disk before after)) is may = absurd may
+synced-own s p from call (Done reply.Done) is may = plain-own s p call reply.Done may
+synced-own s p from call (Done (reply.Word n)) is may = plain-own s p call (reply.Word n) may
+synced-own s p from call (Done (reply.Mapped n)) is may = plain-own s p call (reply.Mapped n) may
+synced-own s p from call (Done (reply.Bytes l)) is may = plain-own s p call (reply.Bytes l) may
+synced-own s p from call (Done (reply.Signal x)) is may = plain-own s p call (reply.Signal x) may
+synced-own s p from call (Done (reply.Refused x)) is may = plain-own s p call (reply.Refused x) may
+synced-own s p from call (Need plan) is may = tt
+synced-own s p from call (Busy h) is may = tt
 
-pub exited-own : (s : KernelState) (p : ℕ) (a : Attempt) → procs.IsExitDone a → IsOwnReply s p a
-exited-own s p (Done r) may = plain-own s p r may
-exited-own s p (Need plan) may = absurd may
-exited-own s p (Busy h) may = absurd may
+pub exited-own : (s : KernelState) (p : ℕ) (call : Call) (a : Attempt) → procs.IsExitDone a → IsOwnReply s p call a
+exited-own s p call (Done r) may = plain-own s p call r may
+exited-own s p call (Need plan) may = absurd may
+exited-own s p call (Busy h) may = absurd may
 
 -- THE MECHANISMS. What holds of an access at its page holds after the call.
 pub access-shown : (m : Memory) (p : ℕ) (call : Call) (a : Attempt) → ((q : ℕ) → accessed_page call ≡ Some q → IsShownWhereDone m p q a) → IsShownAfterCall m p call a
@@ -433,12 +435,12 @@ file-kind call (inr (inr is)) = ap (λ (x : Call). is_some (file_of_call x)) is.
 pub file-plain : (call : Call) → IsSome (file_of_call call) → (child : ℕ) → call ≢ Fork child
 file-plain call of child e = let z : false ≡ true = ap (λ (x : Call). is_some (file_of_call x)) (sym e) ∙ of in cc
 
-file-own : (s : KernelState) (p : ℕ) (call : Call) (r : Reply) → IsFileReply r call → IsOwnReply s p (Done r)
+file-own : (s : KernelState) (p : ℕ) (call : Call) (r : Reply) → IsFileReply r call → IsOwnReply s p call (Done r)
 file-own s p call (reply.Io disk before after) h = absurd h
 file-own s p call (reply.Synced from) h = absurd h
-file-own s p call r h = plain-own s p r tt
+file-own s p call r h = plain-own s p call r tt
 
-pub file-answered : (s : KernelState) (p : ℕ) (call : Call) (a : Attempt) → IsFileAnswer a call → IsOwnReply s p a
+pub file-answered : (s : KernelState) (p : ℕ) (call : Call) (a : Attempt) → IsFileAnswer a call → IsOwnReply s p call a
 file-answered s p call (Done r) h = file-own s p call r h
 file-answered s p call (Need plan) h = tt
 file-answered s p call (Busy hold) h = tt
@@ -450,8 +452,8 @@ after-file old new p (Truncate file len) a of same = record { shown = tt; slots 
 after-file old new p call a of same = absurd (let z : false ≡ true = of in cc)
 
 -- What a Sync leaves of the state, where the seats' starts stay.
-pub synced-rest : (v s : KernelState) (m : Memory) (pending : ℕ) (syncs : List (Option ℕ)) → v ≡ s → syncs ≡ v.syncs → record (with_memory v m pending) { syncs = syncs } ≡ with_memory s m pending
-synced-rest v s m pending syncs is same = ap (λ (l : List (Option ℕ)). record (with_memory v m pending) { syncs = l }) same ∙ ap (λ (x : KernelState). with_memory x m pending) is
+pub synced-rest : (v s : KernelState) (m : Memory) (pending : ℕ) (syncs : List (Option SyncStart)) → v ≡ s → syncs ≡ v.syncs → record (with_memory v m pending) { syncs = syncs } ≡ with_memory s m pending
+synced-rest v s m pending syncs is same = ap (λ (l : List (Option SyncStart)). record (with_memory v m pending) { syncs = l }) same ∙ ap (λ (x : KernelState). with_memory x m pending) is
 
 -- Where no mark changed, and what a call does to them that is neither a Sync nor a Truncate.
 pub same-marks : (s t : KernelState) → t ≡ with_memory s t.memory t.pending → t ≡ with_marks (with_memory s t.memory t.pending) t.marks
@@ -493,7 +495,7 @@ pub record WasServed (s mid : KernelState) (p : ℕ) (call : Call) (a : Attempt)
   pub shown : IsShownAfterCall mid.memory p call a
   pub slots : SlotsAfterCall s.memory mid.memory.world p call a
   pub hit : IsHitAfterCall s.memory mid.memory.world p call a
-  pub own : IsOwnReply s p a
+  pub own : IsOwnReply s p call a
   pub alive : StaysAlive mid.memory p call
   pub marks : MarksAfterCall s mid p call a
 
@@ -501,18 +503,9 @@ pub record WasServed (s mid : KernelState) (p : ℕ) (call : Call) (a : Attempt)
 pub none-waits : (calls : List (Option ℕ)) (seat t : ℕ) (call : Call) → file_of_call call ≡ None → IsAnothers calls seat call t → ⊥
 none-waits calls seat t call none another = let z : ◌≡◌ {A = Option ℕ} None (Some another.file) = sym none ∙ another.of in cc
 
--- What a call that was tried comes to.
-pub record Tries (s t : KernelState) (seat p : ℕ) (call : Call) (a : Attempt) : Type 0 where
-  pub answers : AnswersCall s t seat p call a
-  pub shown : IsShownAfterCall t.memory p call a
-  pub slots : SlotsAfterCall s.memory t.memory.world p call a
-  pub hit : IsHitAfterCall s.memory t.memory.world p call a
-  pub event : IsEvent seat s None t None
-  pub marks : MarksAfterCall s t p call a
-
--- Where these seats have the files' calls then.
+-- What a call that was tried comes to, where these seats have the files' calls then.
 tries : (seat p : ℕ) (s mid t : KernelState) (calls : List (Option ℕ)) (call : Call) (a : Attempt) (fits : FitsAt s seat None) → ((child : ℕ) → call ≢ Fork child) → CanTry s seat p call → IsWellFormed call → WasServed s mid p call a → FilesLet s calls seat p call a
-    → mid ≡ with_marks (with_served s mid.memory mid.pending calls) mid.marks → t ≡ after_answer mid seat p call a → seat < length mid.syncs → Tries s t seat p call a
+    → mid ≡ with_marks (with_served s mid.memory mid.pending calls) mid.marks → t ≡ after_answer mid seat p call a → seat < length mid.syncs → AnswersTry s t seat p call a
 tries seat p s mid t calls call a fits plain may formed w lets rest new seated =
     let memory : t.memory ≡ mid.memory = ap (λ (x : KernelState). x.memory) new ∙ concluded-memory mid seat p call a in
     let marks : t.marks ≡ mid.marks = ap (λ (x : KernelState). x.marks) new ∙ answered-marks mid seat p call a in
@@ -529,13 +522,13 @@ tries seat p s mid t calls call a fits plain may formed w lets rest new seated =
 
 -- On the process's own space, and on a file.
 pub tries-own : (seat p : ℕ) (s mid t : KernelState) (call : Call) (a : Attempt) → FitsAt s seat None → IsOnOwnSpace call → CanTry s seat p call → IsWellFormed call → WasServed s mid p call a → mid ≡ with_marks (with_memory s mid.memory mid.pending) mid.marks → t ≡ after_answer mid seat p call a
-    → seat < length mid.syncs → Tries s t seat p call a
+    → seat < length mid.syncs → AnswersTry s t seat p call a
 tries-own seat p s mid t call a fits served may formed w rest new seated =
     let of = served-is call served in
     tries seat p s mid t s.calls call a fits of.plain may formed w (own-lets fits.0 s fits.1 mid.memory seat p mid.pending call a fits.2 of may w.serves) rest new seated
 
 pub tries-file : (seat p : ℕ) (s mid t : KernelState) (call : Call) (a : Attempt) → FitsAt s seat None → IsSome (file_of_call call) → CanTry s seat p call → IsWellFormed call → WasServed s mid p call a → ((t : ℕ) → (a ≡ Busy (hold.File t)) ↔ IsAnothers s.calls seat call t)
-    → length s.calls ≡ 64 → mid ≡ with_marks (with_served s mid.memory mid.pending (locks_answered seat call a s.calls)) mid.marks → t ≡ after_answer mid seat p call a → seat < length mid.syncs → Tries s t seat p call a
+    → length s.calls ≡ 64 → mid ≡ with_marks (with_served s mid.memory mid.pending (locks_answered seat call a s.calls)) mid.marks → t ≡ after_answer mid seat p call a → seat < length mid.syncs → AnswersTry s t seat p call a
 tries-file seat p s mid t call a fits of may formed w waits places rest new seated =
     tries seat p s mid t (locks_answered seat call a s.calls) call a fits (file-plain call of) may formed w (file-lets fits.0 s fits.1 mid.memory seat p mid.pending call a fits.2 may w.serves waits places) rest new seated
 

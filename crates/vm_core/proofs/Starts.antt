@@ -37,6 +37,7 @@ use Rattle.fault_entry.specs.vm_world.World.{file_blocks, file_name}
 use Rattle.fault_entry.specs.vm_world.ZeroObjects.{KnowsZeros}
 use Rattle.fault_entry.proofs.vm_world.PageNames.{index-of}
 use Rattle.fault_entry.proofs.vm_world.Spaces.{EmptySpaces, empty-zeros}
+use Rattle.fault_entry.specs.vm_world.declared.sync_start.SyncStart.{SyncStart}
 use Rattle.vm_core.specs.Setup.{disk_total, FilesOnDisks, ListsDisk, SwapServes, HaveCounted}
 use Rattle.vm_core.specs.State.{top_space, EachHasPlaces, IsSoundKernel}
 
@@ -307,9 +308,9 @@ opens s frames slots seats places disks swap new sound still counted swap_counte
       history = history;
       pending = pending;
       calls = calls;
-      syncs = λ seat. ap (λ (l : List (Option ℕ)). slice_index_or l seat None) syncs ∙ at-replicate seats seat None;
+      syncs = λ seat. ap (λ (l : List (Option SyncStart)). slice_index_or l seat None) syncs ∙ at-replicate seats seat None;
       plan = plan;
-      marks = subst (λ (n : ℕ). AreOpeningMarks s.memory.world.files n s.marks) (sym (ap (λ (l : List (Option ℕ)). length l) syncs ∙ length-replicate seats None)) marks;
+      marks = subst (λ (n : ℕ). AreOpeningMarks s.memory.world.files n s.marks) (sym (ap (λ (l : List (Option SyncStart)). length l) syncs ∙ length-replicate seats None)) marks;
     }
 
 -- nothing is mapped, so no zero object is there
@@ -329,18 +330,18 @@ same-total seen disks None = ap (λ (n : ℕ). n + 0) (length-map disks (λ disk
 same-total seen disks (Some d) = ap (λ (n : ℕ). n + 1) (length-map disks (λ disk. (disk.0, seen disk.1)))
 
 -- WHAT IS KEPT of the start.
-pub kept-start : (store : StoreSeen) (objects : List (Option ℕ)) (spaces : Spaces) (parents entries : List ℕ) (frames count seats : ℕ) (syncs : List (Option ℕ)) (disks : List (ℕ × DiskSeen)) (swap : Option DiskSeen) → IsNew store frames disks swap
+pub kept-start : (store : StoreSeen) (objects : List (Option ℕ)) (spaces : Spaces) (parents entries : List ℕ) (frames count seats : ℕ) (syncs : List (Option SyncStart)) (disks : List (ℕ × DiskSeen)) (swap : Option DiskSeen) → IsNew store frames disks swap
     → ((p : ℕ) → finite.get spaces p ≡ top_space parents p) → disk_total disks swap + 4 ≤ frames → syncs ≡ replicate seats None → length entries ≤ seats → objects ≡ [] → IsSoundKernel store objects spaces entries (length syncs)
 kept-start store objects spaces parents entries frames count seats syncs disks swap new tops enough are few nothing =
     let disks_are = count-disks store.bays disks swap new.bays in
     let frames_are = ap (λ (l : List (Option (List ℕ))). length l) new.frames ∙ length-replicate frames (Some zeros) in
-    let seats_are = ap (λ (l : List (Option ℕ)). length l) are ∙ length-replicate seats None in
+    let seats_are = ap (λ (l : List (Option SyncStart)). length l) are ∙ length-replicate seats None in
     record { frames = omega (arith, disks_are, frames_are, enough); known = subst (λ (l : List (Option ℕ)). KnowsZeros l spaces) (sym nothing) (known-none parents spaces tops); seated = omega (arith, seats_are, few) }
 
 -- And each process has its places.
-pub have-places : (parents entries : List ℕ) (processes seats : ℕ) (marks : List Bool) (syncs : List (Option ℕ)) → processes ≡ length parents → marks ≡ map (λ (n : ℕ). n == 0) parents → syncs ≡ replicate seats None → length parents ≡ length entries → length entries ≤ seats
+pub have-places : (parents entries : List ℕ) (processes seats : ℕ) (marks : List Bool) (syncs : List (Option SyncStart)) → processes ≡ length parents → marks ≡ map (λ (n : ℕ). n == 0) parents → syncs ≡ replicate seats None → length parents ≡ length entries → length entries ≤ seats
     → EachHasPlaces parents processes (length marks) (length syncs)
 have-places parents entries processes seats marks syncs all are none each few =
     let marked = ap (λ (l : List Bool). length l) are ∙ length-map parents (λ (n : ℕ). n == 0) in
-    let count = ap (λ (l : List (Option ℕ)). length l) none ∙ length-replicate seats None in
+    let count = ap (λ (l : List (Option SyncStart)). length l) none ∙ length-replicate seats None in
     record { spaces = omega (arith, all); marks = omega (arith, marked); seats = omega (arith, each, few, count) }

@@ -77,10 +77,10 @@ IsShownAfterCall m p (Load a n) answer = IsShownWhereDone m p (page a) answer
 IsShownAfterCall m p (Store a n v) answer = IsShownWhereDone m p (page a) answer
 IsShownAfterCall m p call answer = Unit {0}
 
--- A reply to a process that is no device error, and where it is a Sync's, says where the Sync of its seat began.
-abbrev pub IsOwnReply : KernelState → ℕ → Attempt → Type 0
-IsOwnReply s p (Done reply) = IsFalse (is_io reply) × ((from : ℕ) → reply ≡ Synced from → from ≡ start_of s (seat_of p))
-IsOwnReply s p attempt = Unit {0}
+-- A reply to a process's call that is no device error, and where it is a Sync's, says where that Sync began.
+abbrev pub IsOwnReply : KernelState → ℕ → Call → Attempt → Type 0
+IsOwnReply s p call (Done reply) = IsFalse (is_io reply) × ((from : ℕ) → reply ≡ Synced from → from ≡ start_of s (seat_of p) call)
+IsOwnReply s p call attempt = Unit {0}
 
 -- The calls that take memory: those that change what is mapped, and a Fork.
 abbrev pub TakesMemory : Call → Type 0
@@ -91,7 +91,8 @@ TakesMemory (Fork child) = Unit {0}
 TakesMemory call = ⊥
 
 -- The call is done: exactly one entry is added, which is no device error. Its signal or errno, or that it has none, is what was due in flat memory of the
--- state, over any disks; no page is modified that wasn't, but one that the call may make so; and a Sync says where it began, and leaves each page that it wants clean so. The entry takes the tails that were pending, and those
+-- state, over any disks; no page is modified, or counts as rewritten, that wasn't or didn't, but one that the call may make so; and a Sync says where it
+-- began, and leaves each page that it wants clean so. The entry takes the tails that were pending, and those
 -- of pages that were replaced before the call acted. No disk is called.
 pub record IsDone (old new : KernelState) (p : ℕ) (call : Call) (reply : Reply) : Type 0 where
   pub mid : World
@@ -99,7 +100,7 @@ pub record IsDone (old new : KernelState) (p : ℕ) (call : Call) (reply : Reply
   pub adds : AddsEntry old new (record { process = p; call = call; reply = reply; cleared = cleared })
   pub no_error : IsFalse (is_io reply)
   pub refusal : IsRefusal old.memory p call (refusal_in reply)
-  pub start : (from : ℕ) → reply ≡ Synced from → from ≡ start_of old (seat_of p)
+  pub start : (from : ℕ) → reply ≡ Synced from → from ≡ start_of old (seat_of p) call
   pub clean : (from : ℕ) (name : PageName) → reply ≡ Synced from → WantsClean new.memory p call name → IsCleanPage new.memory.world name
   pub takes : TakesFrames old.memory mid old.pending cleared
   pub replaced : AreReplaced old.memory.world new.memory.world takes.cut
@@ -107,8 +108,8 @@ pub record IsDone (old new : KernelState) (p : ℕ) (call : Call) (reply : Reply
   pub bays : new.memory.world.store.bays ≡ old.memory.world.store.bays
   pub plan : new.plan ≡ None
 
--- Frames may have been taken for other pages, and nothing else happened: no page is modified that wasn't; tails became pending of pages that were replaced;
--- no entry was added; and where the call is a Sync, its start is kept.
+-- Frames may have been taken for other pages, and nothing else happened: no page is modified, or counts as rewritten, that wasn't or didn't; tails became
+-- pending of pages that were replaced; no entry was added; and where the call is a Sync, its start is kept.
 pub record HasBegun (old new : KernelState) (seat : ℕ) (call : Call) : Type 0 where
   pub takes : TakesFrames old.memory new.memory.world old.pending new.pending
   pub replaced : AreReplaced old.memory.world new.memory.world takes.cut

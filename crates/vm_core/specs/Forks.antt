@@ -6,6 +6,7 @@ use Rattle.fault_entry.specs.vm_types.declared.call.Reply.{Reply}
 use Rattle.fault_entry.specs.vm_types.declared.call.Reply.TheVariants as reply
 use Rattle.fault_entry.specs.vm_world.FlatMemory.{Memory}
 use Rattle.fault_entry.specs.vm_world.State.{KernelState}
+use Rattle.fault_entry.specs.vm_world.declared.sync_start.SyncStart.{SyncStart}
 
 -- Who was ever alive then: where the Fork is done, its child too.
 abbrev pub born_after : set.FinSet nat_cmp → ℕ → Reply → set.FinSet nat_cmp
@@ -13,7 +14,7 @@ born_after born child reply.Done = set.insert born child
 born_after born child answer = born
 
 -- Where Syncs began: of a child that is born none has.
-abbrev pub starts_after : List (Option ℕ) → ℕ → Reply → List (Option ℕ)
+abbrev pub starts_after : List (Option SyncStart) → ℕ → Reply → List (Option SyncStart)
 starts_after syncs child reply.Done = slice_set syncs (child - 1) None
 starts_after syncs child answer = syncs
 

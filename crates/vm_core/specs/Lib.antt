@@ -7,6 +7,7 @@ pub mod Fits
 pub mod Flights
 pub mod Calls
 pub mod Answered
+pub mod SeatSteps
 pub mod Raises
 pub mod Forks
 pub use Rattle.fault_entry.specs.vm_types as vm_types

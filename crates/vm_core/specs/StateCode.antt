@@ -31,6 +31,8 @@ use Rattle.fault_entry.specs.vm_world.FlatMemory.{Memory}
 use Rattle.fault_entry.specs.vm_world.Segments.{Spaces}
 use Rattle.fault_entry.specs.vm_world.State.{KernelState, KeptPlan, Caller}
 use Rattle.fault_entry.specs.vm_world.World.{World}
+use Rattle.fault_entry.specs.vm_world.declared.sync_start.SyncStart.{SyncStart}
+use Rattle.fault_entry.specs.vm_world.contracts.sync_start.SyncStart as start
 use Rattle.fault_entry.specs.seg_vn.Segments.{segment_code}
 use Rattle.disk_marks.specs.Marks.{MarksSeen}
 use Rattle.disk_marks.specs.declared.marks.MarkRow.{MarkRow}
@@ -127,10 +129,10 @@ abbrev pub past_code : Coded Past
 past_code = coded× (set.code coded_ℕ) (coded× (coded_list entry.the_row.coded) coded_ℕ)
 
 abbrev pub Between : Type 0
-Between = List (Option ℕ) × (List (Option ℕ) × Option KeptPlan)
+Between = List (Option ℕ) × (List (Option SyncStart) × Option KeptPlan)
 
 abbrev pub between_code : Coded Between
-between_code = coded× (coded_list (coded_option coded_ℕ)) (coded× (coded_list (coded_option coded_ℕ)) (coded_option kept_code))
+between_code = coded× (coded_list (coded_option coded_ℕ)) (coded× (coded_list (coded_option start.the_row.coded)) (coded_option kept_code))
 
 abbrev pub state_code : Coded KernelState
 state_code =

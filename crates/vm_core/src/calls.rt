@@ -237,7 +237,7 @@ impl<D: Disk> VmState<D> {
             self.new.memory.world process call.now attempt) }
         ensures hit { IfOk result (λ attempt. IsHitAfterCall self.old.memory
             self.new.memory.world process call.now attempt) }
-        ensures own { IfOk result (IsOwnReply self.old process) }
+        ensures own { IfOk result (IsOwnReply self.old process call.now) }
         ensures alive { IfOk result (λ attempt. StaysAlive self.new.memory process call.now) }
         ensures marks { IfOk result (MarksAfterCall self.old self.new process call.now) }
         // What stays.
@@ -267,7 +267,7 @@ impl<D: Disk> VmState<D> {
             call.now (attempt_of result) }
         ensures hit { IsHitAfterCall self.old.memory self.new.memory.world process
             call.now (attempt_of result) }
-        ensures own { IsOwnReply self.old process (attempt_of result) }
+        ensures own { IsOwnReply self.old process call.now (attempt_of result) }
         ensures alive { StaysAlive self.new.memory process call.now }
         // What stays.
         ensures rest { self.new ≡ with_memory self.old self.new.memory self.new.pending }
@@ -289,7 +289,7 @@ impl<D: Disk> VmState<D> {
             self.new.memory.world process call.now attempt) }
         ensures hit { IfOk result (λ attempt. IsHitAfterCall self.old.memory
             self.new.memory.world process call.now attempt) }
-        ensures own { IfOk result (IsOwnReply self.old process) }
+        ensures own { IfOk result (IsOwnReply self.old process call.now) }
         ensures alive { IfOk result (λ attempt. StaysAlive self.new.memory process call.now) }
         // What stays.
         ensures rest { self.new ≡ with_memory self.old self.new.memory self.new.pending }
@@ -309,7 +309,7 @@ impl<D: Disk> VmState<D> {
         requires fits { MemoryFits self.old.memory }
         ensures serves { Serves self.old.memory self.new.memory
             self.old.pending self.new.pending self.old.calls process (Sync addr bytes) result }
-        ensures own { IsOwnReply self.old process result }
+        ensures own { IsOwnReply self.old process (Sync addr bytes) result }
         ensures marks { MarksAfterCall self.old self.new process (Sync addr bytes) result }
         // What stays.
         ensures slots { self.new.memory.world.anon ≡ self.old.memory.world.anon }
@@ -331,14 +331,14 @@ impl<D: Disk> VmState<D> {
         requires fits { MemoryFits self.old.memory }
         ensures serves { Serves self.old.memory self.new.memory
             self.old.pending self.new.pending self.old.calls process (Sync addr bytes) result }
-        ensures own { IsOwnReply self.old process result }
+        ensures own { IsOwnReply self.old process (Sync addr bytes) result }
         // What stays.
         ensures slots { self.new.memory.world.anon ≡ self.old.memory.world.anon }
         ensures spaces { self.new.memory.spaces ≡ self.old.memory.spaces }
         ensures rest { self.new ≡ with_memory self.old self.new.memory self.new.pending }
     {
         self.seated(seat, process);
-        let from = self.sync_start(seat);
+        let from = self.sync_start(seat, addr, bytes);
         let mut cursor = self.syncs.cursor(seat);
         let attempt = mmap_calls::sync(
             &mut self.world,
@@ -362,7 +362,7 @@ impl<D: Disk> VmState<D> {
             self.old.pending self.new.pending self.old.calls process call.now result }
         ensures fall { (slot : ℕ) → count_at self.new.memory.world.anon slot
             ≤ count_at self.old.memory.world.anon slot }
-        ensures own { IsOwnReply self.old process result }
+        ensures own { IsOwnReply self.old process call.now result }
         // What stays.
         ensures rest { self.new ≡ with_memory self.old self.new.memory self.new.pending }
     {

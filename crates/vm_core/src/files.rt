@@ -29,7 +29,7 @@ impl<D: Disk> VmState<D> {
             self.old.pending self.new.pending self.old.calls process call.now result }
         ensures waits { (t : ℕ)
             → (result ≡ Busy (File t)) ↔ IsAnothers self.old.calls seat call.now t }
-        ensures own { IsOwnReply self.old process result }
+        ensures own { IsOwnReply self.old process call.now result }
         // What stays.
         ensures places { length self.old.calls ≡ 64 }
         ensures slots { self.new.memory.world.anon ≡ self.old.memory.world.anon }
@@ -53,7 +53,7 @@ impl<D: Disk> VmState<D> {
             self.old.pending self.new.pending self.old.calls process call.now result }
         ensures waits { (t : ℕ)
             → (result ≡ Busy (File t)) ↔ IsAnothers self.old.calls seat call.now t }
-        ensures own { IsOwnReply self.old process result }
+        ensures own { IsOwnReply self.old process call.now result }
         ensures marks { MarksAfterCall self.old self.new process call.now result }
         // What stays.
         ensures places { length self.old.calls ≡ 64 }

@@ -139,7 +139,8 @@ impl<D: Disk> VmState<D> {
             self.new.memory.world process call.now (attempt_of answer)) }
         ensures hit { IfSome result (λ answer. IsHitAfterCall self.old.memory
             self.new.memory.world process call.now (attempt_of answer)) }
-        ensures own { IfSome result (λ answer. IsOwnReply self.old process (attempt_of answer)) }
+        ensures own { IfSome result (λ answer. IsOwnReply self.old process call.now
+            (attempt_of answer)) }
         ensures alive { IfSome result (λ _answer. StaysAlive self.new.memory process call.now) }
         ensures kind { IfSome result (IsHitAnswer call.now) }
         // No hit.

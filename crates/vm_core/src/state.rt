@@ -3,6 +3,7 @@ ghost use Rattle.std.specs.Prelude.{◌≡◌, ◌↔◌, ◌+◌, ◌<◌, ◌�
 ghost use Rattle.std.specs.FinMap as finite;
 ghost use Rattle.fault_entry.specs.flat_model.Told.{entries_of};
 ghost use Rattle.fault_entry.specs.vm_world.State.{room_of, seat_of};
+ghost use Rattle.fault_entry.specs.vm_types.declared.call.Call.TheVariants.{Sync};
 ghost use Rattle.fault_entry.specs.vm_world.SyncSteps.{start_of, with_call_begun};
 ghost use Rattle.fault_entry.specs.vm_types.Parts.{part_file};
 ghost use Rattle.file_calls.specs.Locks.{calls_without};
@@ -16,6 +17,7 @@ use fault_entry::{Call, Disk, Reply, Spaces, World};
 use file_calls::FileLocks;
 use std::alloc::Global;
 use std::marker::Model;
+use vm_world::SyncStart;
 
 /// The state of the system: the world below the segments, the spaces, and the history.
 ///
@@ -28,7 +30,7 @@ pub struct VmState<D: Disk> {
     pub(crate) ledger: Ledger,
     // Of each file the seat whose call is between two parts.
     pub(crate) calls: FileLocks,
-    // Of each seat where its Sync began, and where it looks next.
+    // Of each seat where its Sync began, of which range it is, and where it looks next.
     pub(crate) syncs: Syncs,
     // The last plan that was answered.
     pub(crate) plan: Option<Kept>,
@@ -138,22 +140,28 @@ impl<D: Disk> VmState<D> {
         let _ = (seat, process, self.syncs.seats());
     }
 
-    // Where the Sync of a seat began: with the history as it is, if none has.
-    pub(crate) fn sync_start(&self, seat: u32) -> u64
+    // Where the Sync of a seat began of so many bytes from an address on: with the history as it is, if the seat keeps no start of it.
+    pub(crate) fn sync_start(&self, seat: u32, addr: u32, bytes: u32) -> u64
         requires { seat < length self.now.syncs }
-        ensures { result ≡ start_of self.now seat }
+        ensures { result ≡ start_of self.now seat (Sync addr bytes) }
     {
-        let now = u64::from(self.ledger.length());
-        self.syncs.start(seat).unwrap_or(now)
+        match self.syncs.start(seat) {
+            Some(start) if start.addr == addr && start.length == bytes => start.from,
+            _ => u64::from(self.ledger.length()),
+        }
     }
 
-    // Where the call is a Sync, the seat keeps where it began.
+    // Where the call is a Sync, the seat keeps where it began, and its range.
     pub(crate) fn begin_call(&mut self, seat: u32, call: &Call)
         requires { seat < length self.old.syncs }
         ensures { self.new ≡ with_call_begun self.old seat call.now }
     {
-        if let Call::Sync { .. } = *call {
-            let start = self.sync_start(seat);
+        if let Call::Sync { addr, length } = *call {
+            let start = SyncStart {
+                from: self.sync_start(seat, addr, length),
+                addr,
+                length,
+            };
             self.syncs.set(seat, Some(start));
         }
     }

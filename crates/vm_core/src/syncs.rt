@@ -3,22 +3,25 @@ ghost use Rattle.std.specs.Prelude.{◌≡◌, ◌<◌, length, None, IfOk, repl
 
 use std::alloc::{AllocError, Global};
 use std::marker::Model;
+use vm_world::SyncStart;
 
-/// Of each seat where its Sync began, and the page of its process at which the Sync looks next. Contracts see where Syncs began
-/// alone: nothing but time depends on the page.
+/// Of each seat where its Sync began, with its range, and the page of its process at which the Sync looks next. Contracts see where
+/// Syncs began alone: nothing but time depends on the page.
 #[derive(Drop)]
 pub(crate) struct Syncs {
-    starts: Vec<Option<u64>>,
+    starts: Vec<Option<SyncStart>>,
     cursors: Vec<u32>,
 }
 
 impl Model for Syncs {
     ghost use Rattle.std.specs.Prelude.{◌≡◌, ℕ, List, Option, length};
-    ghost use Rattle.std.specs.Coded.{coded_list, coded_option, coded_ℕ};
+    ghost use Rattle.std.specs.Coded.{coded_list, coded_option};
+    ghost use Rattle.fault_entry.specs.vm_world.contracts.sync_start.SyncStart as start;
+    ghost use Rattle.fault_entry.specs.vm_world.declared.sync_start.SyncStart.{SyncStart};
 
-    ghost Value = { List (Option ℕ) };
+    ghost Value = { List (Option SyncStart) };
 
-    ghost coded = { coded_list (coded_option coded_ℕ) };
+    ghost coded = { coded_list (coded_option start.the_row.coded) };
 
     ghost view = { λ s. s.starts.items };
 
@@ -44,7 +47,7 @@ impl Syncs {
     }
 
     /// Where the Sync of a seat began; None where none has.
-    pub fn start(&self, seat: u32) -> Option<u64>
+    pub fn start(&self, seat: u32) -> Option<SyncStart>
         requires { seat < length self.now }
         ensures { result ≡ slice_index_or self.now seat None }
     {
@@ -52,7 +55,7 @@ impl Syncs {
     }
 
     /// Keeps where the Sync of a seat began, or that none has.
-    pub fn set(&mut self, seat: u32, start: Option<u64>)
+    pub fn set(&mut self, seat: u32, start: Option<SyncStart>)
         requires { seat < length self.old }
         ensures { self.new ≡ slice_set self.old seat start }
     {

@@ -1,5 +1,5 @@
 -- A call that takes several turns.
-use Rattle.std.proofs.Common.{◌≡◌, ℕ, Bool, true, false, List, ◌++◌, refl, ap, sym, ◌∙◌, subst, arith, append_assoc, le_refl}
+use Rattle.std.proofs.Common.{◌≡◌, ℕ, ◌+◌, Bool, true, false, List, ◌++◌, refl, ap, sym, ◌∙◌, subst, arith, append_assoc, le_refl}
 use Rattle.std.specs.Prelude.{IfOk, IsTrue, OnErr, Result, Ok, Err, ◌||◌}
 use Rattle.std.specs.List.{list_any}
 use Rattle.std.proofs.lemmas.List.Folds.{list_any-append}
@@ -19,7 +19,7 @@ use Rattle.vm_kernel.specs.declared.turn.Turn.{Turn}
 use Rattle.vm_kernel.proofs.Visited.{turn-later, done-later, refused-later}
 
 pub goes-not : (c : CallerSeen) → ShowsOwn c → CallerGoesOn c c
-goes-not c own = record { process = refl; number = refl; seen = prefix_self c.seat.seen; own = own; refused = le_refl c.seat.refused; leaves = le_refl c.seat.leaves; emptied = le_refl c.seat.emptied }
+goes-not c own = record { process = refl; number = refl; seen = prefix_self c.seat.seen; own = own; refused = le_refl c.seat.refused; leaves = le_refl c.seat.leaves; emptied = le_refl c.seat.emptied; told = le_refl (c.seat.told + c.seat.emptied); told_files = le_refl c.seat.told_files }
 
 pub goes-both : (c m d : CallerSeen) → CallerGoesOn c m → CallerGoesOn m d → CallerGoesOn c d
 goes-both c m d a b = record {
@@ -30,6 +30,8 @@ goes-both c m d a b = record {
   refused = let x = a.refused in let y = b.refused in omega (arith, x, y);
   leaves = let x = a.leaves in let y = b.leaves in omega (arith, x, y);
   emptied = let x = a.emptied in let y = b.emptied in omega (arith, x, y);
+  told = let x = a.told in let y = b.told in omega (arith, x, y);
+  told_files = let x = a.told_files in let y = b.told_files in omega (arith, x, y);
 }
 
 pub may-still : (k : KernelSeen) (c m : CallerSeen) (call : Call) → MayCall k c call → CallerGoesOn c m → m.seat.own ≡ c.seat.own → IsForCall c.process call m.seat.note → MayCall k m call

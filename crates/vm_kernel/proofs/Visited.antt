@@ -4,14 +4,17 @@ use Rattle.std.specs.Prelude.{All, IfSome, IsFalse, IsTrue, is_some}
 use Rattle.std.proofs.lemmas.List.{append-nil}
 use Rattle.std.proofs.lemmas.List.Elements.{filter-append, All-nil, All-cons}
 use mathlib.Core.List.{IsPrefix}
-use Rattle.kernel_lock.specs.Seats.{IsEntered, HasTried, after_enter, after_leave, after_refusal, part_of, entries_by, empties}
+use Rattle.kernel_lock.specs.Seats.{IsEntered, HasTried, after_enter, after_leave, after_refusal, after_tells, part_of, entries_by, empties}
 use Rattle.kernel_lock.proofs.Begun.{prefix_more, prefix_self}
+use Rattle.vm_core.specs.Calls.{TakesMemory}
+use Rattle.vm_core.specs.fault_entry.Accesses.{IsAccess}
 use Rattle.vm_core.specs.fault_entry.declared.answers.Answer.{Answer}
 use Rattle.vm_core.specs.fault_entry.declared.answers.Answer.TheVariants as answer
 use Rattle.vm_core.specs.flat_model.History.{is_io}
 use Rattle.vm_core.specs.page_store.declared.plan.Hold.{Hold}
 use Rattle.vm_core.specs.page_store.declared.plan.Hold.TheVariants as hold
 use Rattle.vm_core.specs.vm_types.declared.call.Call.{Call}
+use Rattle.vm_core.specs.vm_types.declared.call.Call.TheVariants.{Load, Store, Map, Unmap, Protect, Sync, Read, Write, Truncate, Fork, Exit}
 use Rattle.vm_core.specs.vm_types.declared.call.Entry.{Entry}
 use Rattle.vm_core.specs.vm_types.declared.call.Reply.{Reply}
 use Rattle.vm_core.specs.vm_types.declared.call.Reply.TheVariants as reply
@@ -21,8 +24,9 @@ use Rattle.vm_kernel.specs.Callers.{SeatSeen, CallerSeen, IsIdle}
 use Rattle.vm_kernel.specs.Notes.{InHand, IsSentFor}
 use Rattle.vm_kernel.specs.Since.{seat_of_entry, history_of, IsSinceOpening}
 use Rattle.vm_kernel.specs.Steps.{IsNoteFor, IsForNone, tried_of}
+use Rattle.vm_kernel.specs.Tells.{TellsTry, files_of, files_of_end, files_of_error}
 use Rattle.vm_kernel.specs.Turns.{CallerGoesOn, TriesOnce, IsOneTurn, MovesHands, IsQuick, IsTurn, IsFirstHalf, IsCallDone, LacksMemory, HasMet, HasCauseFor, ShowsError, IsForCall, caller_at, quick_of, turn_of_try, turn_of_end, why_of}
-use Rattle.vm_kernel.specs.Visits.{GoesOut, LeavesTry, LeavesEnd, LeavesHand, Visit}
+use Rattle.vm_kernel.specs.Visits.{GoesOut, LeavesTelling, LeavesEnd, LeavesHand, Visit}
 use Rattle.vm_kernel.specs.declared.sent.SentFlight.{SentFlight}
 use Rattle.vm_kernel.specs.declared.turn.Turn.{Turn}
 use Rattle.vm_kernel.specs.declared.turn.Turn.TheVariants.{Done, Again}
@@ -40,11 +44,11 @@ all-of k (e ∷ es) all =
     rw on (ap (λ z. e ∷ z) (all-of k es (λ i d lt. all (suc i) d (omega (arith, lt)))))
 
 -- FROM OUTSIDE TO OUTSIDE
-pub visited : (opening : KernelState) (n : ℕ) (c b d : SeatSeen) (s t : KernelState) (m : Option Sent) (added : List Entry) → IsEntered seat_of_entry history_of IsSinceOpening opening n (part_of c) s
-    → HasTried (after_enter c s) b → GoesOut b s t m d → t.history ≡ s.history ++ added → All (λ (e : Entry). seat_of_entry e ≡ c.number) added → Visit c t m added d
-visited opening n c b d s t m added came tries out longer by =
-    let e : d ≡ after_leave seat_of_entry history_of (record (after_enter c s) { refused = tries.0; refused_by = tries.1 }) t m =
-    out.new ∙ ap (λ (v : SeatSeen). after_leave seat_of_entry history_of v t m) tries.3 in
+pub visited : (opening : KernelState) (n : ℕ) (c b d : SeatSeen) (s t : KernelState) (m : Option Sent) (added : List Entry) (changes files : ℕ) → IsEntered seat_of_entry history_of IsSinceOpening opening n (part_of c) s
+    → HasTried (after_enter c s) b → GoesOut b s t m changes files d → t.history ≡ s.history ++ added → All (λ (e : Entry). seat_of_entry e ≡ c.number) added → Visit c t m added changes files d
+visited opening n c b d s t m added changes files came tries out longer by =
+    let e : d ≡ after_tells changes files (after_leave seat_of_entry history_of (record (after_enter c s) { refused = tries.0; refused_by = tries.1 }) t m) =
+    out.new ∙ ap (λ (v : SeatSeen). after_tells changes files (after_leave seat_of_entry history_of v t m)) tries.3 in
     let up = tries.2 in
     let own : entries_by seat_of_entry c.number t.history ≡ c.own ++ added =
     ap (entries_by seat_of_entry c.number) longer ∙ filter-append (λ (x : Entry). eqb (seat_of_entry x) c.number) s.history added
@@ -62,6 +66,8 @@ visited opening n c b d s t m added came tries out longer by =
       whole = subst (λ (v : SeatSeen). entries_by seat_of_entry v.number v.seen ≡ v.own) (sym e) refl;
       refused = subst (λ (v : SeatSeen). c.refused ≤ v.refused) (sym e) up;
       leaves = ap (λ v. v.leaves) e;
+      told = ap (λ v. v.told) e;
+      told_files = ap (λ v. v.told_files) e;
       emptied = ap (λ v. v.emptied) e;
       last = ap (λ v. v.last_emptied) e;
     }
@@ -71,7 +77,17 @@ emptied-up None m k = le_refl k
 emptied-up (Some x) None k = omega arith
 emptied-up (Some x) (Some y) k = le_refl k
 
-module _ (c d : SeatSeen) (t : KernelState) (m : Option Sent) (added : List Entry) (p : ℕ) (visit : Visit c t m added d) where
+-- A note that was emptied was told of.
+pub tells-home : (n m : Option Sent) (k : ℕ) → (if empties n m then k + 1 else k) ≤ k + 1
+tells-home None m k = omega arith
+tells-home (Some x) None k = omega arith
+tells-home (Some x) (Some y) k = omega arith
+
+pub tells-none : (n m : Option Sent) (k changes : ℕ) → n ≡ None → (if empties n m then k + 1 else k) ≤ k + changes
+tells-none None m k changes is = omega arith
+tells-none (Some x) m k changes is = absurd (cc (is))
+
+module _ (c d : SeatSeen) (t : KernelState) (m : Option Sent) (added : List Entry) (p : ℕ) {changes files : ℕ} (visit : Visit c t m added changes files d) where
   pub idle-then : {D : Type 0} (old new : Option (SentFlight D)) → IsIdle c p old → InHand new m → IsIdle d p new
   idle-then old new was hand = record {
     outside = visit.outside;
@@ -81,8 +97,8 @@ module _ (c d : SeatSeen) (t : KernelState) (m : Option Sent) (added : List Entr
     hand = subst (λ (o : Option Sent). InHand new o) (sym visit.noted) hand;
   }
 
-  pub goes-then : CallerGoesOn (caller_at c p) (caller_at d p)
-  goes-then = record {
+  pub goes-then : (if empties c.note m then c.emptied + 1 else c.emptied) ≤ c.emptied + changes → CallerGoesOn (caller_at c p) (caller_at d p)
+  goes-then home = record {
     process = refl;
     number = visit.number;
     seen = visit.seen;
@@ -90,6 +106,10 @@ module _ (c d : SeatSeen) (t : KernelState) (m : Option Sent) (added : List Entr
     refused = visit.refused;
     leaves = let is = visit.leaves in omega (arith, is);
     emptied = subst (λ (k : ℕ). c.emptied ≤ k) (sym visit.emptied) (emptied-up c.note m c.emptied);
+    told =
+        let some : d.emptied ≤ c.emptied + changes = subst (λ (k : ℕ). k ≤ c.emptied + changes) (sym visit.emptied) home in
+        let is = visit.told in omega (arith, some, is);
+    told_files = let is = visit.told_files in omega (arith, is);
   }
 
 -- A REFUSED TRY
@@ -106,6 +126,8 @@ module _ (c d : SeatSeen) (by : ℕ) (p : ℕ) (is : d ≡ after_refusal c by) w
     refused = omega arith;
     leaves = le_refl c.leaves;
     emptied = le_refl c.emptied;
+    told = le_refl (c.told + c.emptied);
+    told_files = le_refl c.told_files;
   })
 
   pub turn-refused : (call : Call) → IsForCall p call c.note → IsTurn (caller_at c p) call (caller_at d p) (Again LockHeld)
@@ -130,37 +152,78 @@ met c call d (hold.File t) has = has
 for-none : (p : ℕ) (call : Call) (o : Option Sent) → o ≡ None → IsForCall p call o
 for-none p call o is = subst (IsForCall p call) (sym is) tt
 
+takes-no-access : (call : Call) → TakesMemory call → IsAccess call → ⊥
+takes-no-access (Load a n) takes is = takes
+takes-no-access (Store a n v) takes is = takes
+takes-no-access (Map place len prot kind object offset) takes is = is
+takes-no-access (Unmap a len) takes is = is
+takes-no-access (Protect a len prot) takes is = is
+takes-no-access (Sync a len) takes is = is
+takes-no-access (Read file offset len) takes is = is
+takes-no-access (Write file offset line rest) takes is = is
+takes-no-access (Truncate file len) takes is = is
+takes-no-access (Fork child) takes is = is
+takes-no-access Exit takes is = is
+
 -- What a try comes to, from outside to outside.
 pub record Comes {E : Type 0} (c : SeatSeen) (p : ℕ) (call : Call) (d : SeatSeen) (note : Option Sent) (result : Result Tried E) : Type 0 where
   pub state : KernelState
   pub added : List Entry
-  pub visit : Visit c state note added d
+  pub changes : ℕ
+  pub files : ℕ
+  pub visit : Visit c state note added changes files d
+  pub home : (if empties c.note note then c.emptied + 1 else c.emptied) ≤ c.emptied + changes
   pub half : IsFirstHalf (caller_at c p) call (caller_at d p) (turn_of_try result)
 
 module _ (opening : KernelState) (n : ℕ) (c b d : SeatSeen) (s : KernelState) (p : ℕ) (call : Call) (note : Option Sent) (came : IsEntered seat_of_entry history_of IsSinceOpening opening n (part_of c) s)
-    (in' : HasTried (after_enter c s) b) (named : p ≡ suc c.number) where
-  none-added : (t : KernelState) → t.history ≡ s.history → GoesOut b s t note d → Visit c t note [] d
-  none-added t same out = visited opening n c b d s t note [] came in' out (same ∙ sym (append-nil s.history)) (All-nil (λ (e : Entry). seat_of_entry e ≡ c.number))
+    (in' : HasTried (after_enter c s) b) (named : p ≡ suc c.number) (free : c.note ≡ None) (changes files : ℕ) where
+  none-added : (t : KernelState) → t.history ≡ s.history → GoesOut b s t note changes files d → Visit c t note [] changes files d
+  none-added t same out = visited opening n c b d s t note [] changes files came in' out (same ∙ sym (append-nil s.history)) (All-nil (λ (e : Entry). seat_of_entry e ≡ c.number))
 
-  pub tried-comes : {E : Type 0} (result : Result Tried E) → LeavesTry b s p call d note result → Comes c p call d note result
-  tried-comes (Ok (tried.Done r)) (t, out, ((cleared, longer), plain, none)) =
+  home-then : (if empties c.note note then c.emptied + 1 else c.emptied) ≤ c.emptied + changes
+  home-then = tells-none c.note note c.emptied changes free
+
+  told-then : d.told ≡ c.told + changes → (changes ≡ 1) ⊎ (IsAccess call × (changes ≡ 0)) → IsAccess call ⊎ (c.told < d.told)
+  told-then is (inl one) = inr (omega (arith, is, one))
+  told-then is (inr none) = inl none.0
+
+  lacking-told : TakesMemory call → d.told ≡ c.told + changes → (changes ≡ 1) ⊎ (IsAccess call × (changes ≡ 0)) → c.told < d.told
+  lacking-told takes is (inl one) = omega (arith, is, one)
+  lacking-told takes is (inr none) = absurd (takes-no-access call takes none.0)
+
+  pub tried-comes : {E : Type 0} (result : Result Tried E) → TellsTry call result changes files → LeavesTelling changes files b s p call d note result → Comes c p call d note result
+  tried-comes (Ok (tried.Done r)) tells (t, out, ((cleared, longer), plain, none)) =
       let e = done_entry p call r cleared in
-      let visit = visited opening n c b d s t note (e ∷ []) came in' out longer (All-cons (λ (x : Entry). seat_of_entry x ≡ c.number) e [] (ap seat_of named) (All-nil (λ (x : Entry). seat_of_entry x ≡ c.number))) in
+      let visit = visited opening n c b d s t note (e ∷ []) changes files came in' out longer (All-cons (λ (x : Entry). seat_of_entry x ≡ c.number) e [] (ap seat_of named) (All-nil (λ (x : Entry). seat_of_entry x ≡ c.number))) in
       record {
         state = t;
         added = e ∷ [];
+        changes = changes;
+        files = files;
         visit = visit;
-        half = record { entry = (cleared, visit.own); free = visit.noted ∙ none; error = plain-reply (caller_at c p) call (caller_at d p) r plain };
+        home = home-then;
+        half = record {
+          entry = (cleared, visit.own);
+          free = visit.noted ∙ none;
+          error = plain-reply (caller_at c p) call (caller_at d p) r plain;
+          told = record {
+            change = told-then visit.told tells.1;
+            file = let is = visit.told_files in let exact = tells.0 in omega (arith, is, exact);
+          };
+        };
       }
-  tried-comes (Ok tried.Out) (t, out, (same, for')) =
+  tried-comes (Ok tried.Out) tells (t, out, (same, for')) =
       let visit = none-added t same out in
-      record { state = t; added = []; visit = visit; half = (visit.own ∙ append-nil c.own, subst (IsNoteFor p call) (sym visit.noted) for') }
-  tried-comes (Ok (tried.Busy h)) (t, out, (same, holds, none)) =
+      record { state = t; added = []; changes = changes; files = files; visit = visit; home = home-then; half = (visit.own ∙ append-nil c.own, subst (IsNoteFor p call) (sym visit.noted) for') }
+  tried-comes (Ok (tried.Busy h)) tells (t, out, (same, holds, none)) =
       let visit = none-added t same out in
       record {
         state = t;
         added = [];
+        changes = changes;
+        files = files;
         visit = visit;
+        home = home-then;
         half = (
           visit.own ∙ append-nil c.own,
           for-none p call d.note (visit.noted ∙ none),
@@ -174,9 +237,17 @@ module _ (opening : KernelState) (n : ℕ) (c b d : SeatSeen) (s : KernelState) 
           }),
         );
       }
-  tried-comes (Err e) (t, out, (same, takes, none)) =
+  tried-comes (Err e) tells (t, out, (same, takes, none)) =
       let visit = none-added t same out in
-      record { state = t; added = []; visit = visit; half = record { takes = takes; none = visit.own ∙ append-nil c.own; free = visit.noted ∙ none } }
+      record {
+        state = t;
+        added = [];
+        changes = changes;
+        files = files;
+        visit = visit;
+        home = home-then;
+        half = record { takes = takes; none = visit.own ∙ append-nil c.own; free = visit.noted ∙ none; told = lacking-told takes visit.told tells.1 };
+      }
 
 -- of a load or a store
 for-note : (p : ℕ) (call : Call) (o : Option Sent) → IsNoteFor p call o → IsForCall p call o
@@ -194,7 +265,8 @@ quick-comes c call d (answer.Busy h) half = (half.0, half.1)
 pub record Ends (c : SeatSeen) (p : ℕ) (call : Call) (d : SeatSeen) (result : Option Reply) : Type 0 where
   pub state : KernelState
   pub added : List Entry
-  pub visit : Visit c state None added d
+  pub files : ℕ
+  pub visit : Visit c state None added 1 files d
   pub turn : IsTurn (caller_at c p) call (caller_at d p) (turn_of_end result)
 
 pub error-told : (b d : SeatSeen) (s : KernelState) (note : Sent) (result : Option Reply) → LeavesEnd b s note d result → IfSome result (λ (r : Reply). IsTrue (is_io r))
@@ -213,10 +285,11 @@ module _ (opening : KernelState) (n : ℕ) (c b d : SeatSeen) (s : KernelState) 
     (in' : HasTried (after_enter c s) b) (named : p ≡ suc c.number) (noted : c.note ≡ Some note) (for' : note.of ≡ Some (p, call)) where
   pub ended-comes : (result : Option Reply) → LeavesEnd b s note d result → Ends c p call d result
   ended-comes None (t, out, same) =
-      let visit = visited opening n c b d s t None [] came in' out (same ∙ sym (append-nil s.history)) (All-nil (λ (e : Entry). seat_of_entry e ≡ c.number)) in
+      let visit = visited opening n c b d s t None [] 1 0 came in' out (same ∙ sym (append-nil s.history)) (All-nil (λ (e : Entry). seat_of_entry e ≡ c.number)) in
       record {
         state = t;
         added = [];
+        files = 0;
         visit = visit;
         turn = (
           visit.own ∙ append-nil c.own,
@@ -234,10 +307,12 @@ module _ (opening : KernelState) (n : ℕ) (c b d : SeatSeen) (s : KernelState) 
       let mine : of ≡ (p, call) = cc (is, for') in
       let longer' : t.history ≡ s.history ++ done_entry p call r cleared ∷ [] = longer ∙ ap (λ (o : ℕ × Call). s.history ++ done_entry o.0 o.1 r cleared ∷ []) mine in
       let e = done_entry p call r cleared in
-      let visit = visited opening n c b d s t None (e ∷ []) came in' out longer' (All-cons (λ (x : Entry). seat_of_entry x ≡ c.number) e [] (ap seat_of named) (All-nil (λ (x : Entry). seat_of_entry x ≡ c.number))) in
+      let files = files_of_error r note.of in
+      let visit = visited opening n c b d s t None (e ∷ []) 1 files came in' out longer' (All-cons (λ (x : Entry). seat_of_entry x ≡ c.number) e [] (ap seat_of named) (All-nil (λ (x : Entry). seat_of_entry x ≡ c.number))) in
       record {
         state = t;
         added = e ∷ [];
+        files = files;
         visit = visit;
         turn = record {
           entry = (cleared, visit.own);
@@ -256,11 +331,18 @@ module _ (opening : KernelState) (n : ℕ) (c b d : SeatSeen) (s : KernelState) 
             home = error.home;
             count = error.count;
           });
+          told = record {
+            change = inr (let is = visit.told in omega (arith, is));
+            file = let same : files ≡ files_of call r = ap (files_of_error r) for' in let is = visit.told_files in omega (arith, is, same);
+          };
         };
       }
 
 -- A TURN THAT BEGAN EARLIER
 module _ (v m d : SeatSeen) (p : ℕ) (call : Call) (goes : CallerGoesOn (caller_at v p) (caller_at m p)) where
+  told-up : v.told ≤ m.told
+  told-up = let home = goes.told in let up = goes.emptied in omega (arith, home, up)
+
   met-later : (h : Hold) → HasMet (caller_at m p) call (caller_at d p) h → HasMet (caller_at v p) call (caller_at d p) h
   met-later h has = record {
     leaves = let a = has.leaves in let b = goes.leaves in omega (arith, a, b);
@@ -306,6 +388,13 @@ module _ (v m d : SeatSeen) (p : ℕ) (call : Call) (goes : CallerGoesOn (caller
     entry = (has.entry.0, has.entry.1 ∙ ap (λ (l : List Entry). l ++ done_entry p call r has.entry.0 ∷ []) own);
     free = has.free;
     error = error-later r has.error;
+    told = record {
+      change = elim has.told.change [
+        | inl access ↦ inl access
+        | inr more ↦ inr (let up = told-up in omega (arith, more, up))
+      ];
+      file = let some = has.told.file in let up = goes.told_files in omega (arith, some, up);
+    };
   }
 
   pub turn-later : (turn : Turn) → m.own ≡ v.own → IsTurn (caller_at m p) call (caller_at d p) turn → IsTurn (caller_at v p) call (caller_at d p) turn
@@ -313,7 +402,7 @@ module _ (v m d : SeatSeen) (p : ℕ) (call : Call) (goes : CallerGoesOn (caller
   turn-later (Again why) own has = (has.0 ∙ own, has.1, cause-later why has.2)
 
   pub refused-later : m.own ≡ v.own → LacksMemory (caller_at m p) call (caller_at d p) → LacksMemory (caller_at v p) call (caller_at d p)
-  refused-later own has = record { takes = has.takes; none = has.none ∙ own; free = has.free }
+  refused-later own has = record { takes = has.takes; none = has.none ∙ own; free = has.free; told = let more = has.told in let up = told-up in omega (arith, more, up) }
 
 -- WHAT IS IN HAND
 pub no-note : {D : Type 0} (sent : Option (SentFlight D)) (o : Option Sent) → sent ≡ None → InHand sent o → o ≡ None
@@ -353,21 +442,21 @@ pub entered-so : (c b : SeatSeen) (s : KernelState) → b ≡ after_enter c s �
 entered-so c b s is = (c.refused, c.refused_by, le_refl c.refused, is)
 
 -- A MOVE OF A HAND
-pub record ComesHand (c : SeatSeen) (d : SeatSeen) (note : Option Sent) : Type 0 where
+pub record ComesHand (c : SeatSeen) (d : SeatSeen) (note : Option Sent) (changes : ℕ) : Type 0 where
   pub state : KernelState
-  pub visit : Visit c state note [] d
+  pub visit : Visit c state note [] changes 0 d
 
 module _ (opening : KernelState) (n : ℕ) (c b d : SeatSeen) (s : KernelState) (came : IsEntered seat_of_entry history_of IsSinceOpening opening n (part_of c) s) (in' : HasTried (after_enter c s) b) where
-  pub hand-comes : (note : Option Sent) → LeavesHand b s d note → ComesHand c d note
+  pub hand-comes : (note : Option Sent) → LeavesHand b s d note → ComesHand c d note 0
   hand-comes note (t, out, same, moved) = record {
     state = t;
-    visit = visited opening n c b d s t note [] came in' out (same ∙ sym (append-nil s.history)) (All-nil (λ (e : Entry). seat_of_entry e ≡ c.number));
+    visit = visited opening n c b d s t note [] 0 0 came in' out (same ∙ sym (append-nil s.history)) (All-nil (λ (e : Entry). seat_of_entry e ≡ c.number));
   }
 
-  pub landed-comes : (note : Sent) (result : Option Reply) → note.of ≡ None → LeavesEnd b s note d result → ComesHand c d None
+  pub landed-comes : (note : Sent) (result : Option Reply) → note.of ≡ None → LeavesEnd b s note d result → ComesHand c d None 1
   landed-comes note None of (t, out, same) = record {
     state = t;
-    visit = visited opening n c b d s t None [] came in' out (same ∙ sym (append-nil s.history)) (All-nil (λ (e : Entry). seat_of_entry e ≡ c.number));
+    visit = visited opening n c b d s t None [] 1 0 came in' out (same ∙ sym (append-nil s.history)) (All-nil (λ (e : Entry). seat_of_entry e ≡ c.number));
   }
   landed-comes note (Some r) of (t, out, ends) = absurd (let z : ◌≡◌ {A = Option (ℕ × Call)} None (Some ends.0) = sym of ∙ ends.1 in cc (z))
 
@@ -382,25 +471,28 @@ one-emptied None note k is = absurd (cc (is))
 one-emptied (Some x) note k is = refl
 
 pub stays-home : (c : CallerSeen) → MovesHands c 0 0 c
-stays-home c = record { leaves = omega arith; emptied = omega arith }
+stays-home c = record { leaves = omega arith; emptied = omega arith; told = omega arith }
 
-pub lands-home : (c d : SeatSeen) (p : ℕ) (note : Sent) → c.note ≡ Some note → ComesHand c d None → MovesHands (caller_at c p) 0 1 (caller_at d p)
+pub lands-home : (c d : SeatSeen) (p : ℕ) (note : Sent) → c.note ≡ Some note → ComesHand c d None 1 → MovesHands (caller_at c p) 0 1 (caller_at d p)
 lands-home c d p note noted came = record {
   leaves = let is = came.visit.leaves in omega (arith, is);
   emptied = came.visit.emptied ∙ one-emptied c.note note c.emptied noted;
+  told = came.visit.told;
 }
 
-pub moved-once : (c d : SeatSeen) (e : CallerSeen) (p pushes : ℕ) (note : Option Sent) → c.note ≡ None → ComesHand c d note → MovesHands (caller_at d p) 0 pushes e → MovesHands (caller_at c p) 1 pushes e
+pub moved-once : (c d : SeatSeen) (e : CallerSeen) (p pushes : ℕ) (note : Option Sent) → c.note ≡ None → ComesHand c d note 0 → MovesHands (caller_at d p) 0 pushes e → MovesHands (caller_at c p) 1 pushes e
 moved-once c d e p pushes note none came home =
     let none' : d.emptied ≡ c.emptied = came.visit.emptied ∙ none-emptied c.note note c.emptied none in record {
       leaves = let is = came.visit.leaves in let on = home.leaves in omega (arith, is, on);
       emptied = let on = home.emptied in omega (arith, none', on);
+      told = let is = came.visit.told in let on = home.told in omega (arith, is, on);
     }
 
 pub moved-on : (c m d : CallerSeen) (i a b : ℕ) → MovesHands c i a m → MovesHands m 1 b d → MovesHands c (i + 1) (a + b) d
 moved-on c m d i a b first then' = record {
   leaves = let x = first.leaves in let y = then'.leaves in omega (arith, x, y);
   emptied = let x = first.emptied in let y = then'.emptied in omega (arith, x, y);
+  told = let x = first.told in let y = then'.told in omega (arith, x, y);
 }
 
 pub in-hand : {D : Type 0} (x : SentFlight D) (o : Option Sent) → InHand (Some x) o → (note : Sent) × (o ≡ Some note) × InHand (Some x) (Some note)

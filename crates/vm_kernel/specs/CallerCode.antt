@@ -23,16 +23,16 @@ seat_place_code = coded× table_id_coded (coded× (coded_option state_code) (cod
 
 -- What it has and saw, and its counts.
 abbrev pub SeatKnown : Type 0
-SeatKnown = Option Sent × (List Entry × (List Entry × (ℕ × (Option ℕ × (ℕ × (ℕ × Option Sent))))))
+SeatKnown = Option Sent × (List Entry × (List Entry × (ℕ × (Option ℕ × (ℕ × (ℕ × (ℕ × (ℕ × Option Sent))))))))
 
 abbrev pub seat_known_code : Coded SeatKnown
 seat_known_code =
-    coded× (coded_option note.the_row.coded) (coded× (coded_list entry.the_row.coded) (coded× (coded_list entry.the_row.coded) (coded× coded_ℕ (coded× (coded_option coded_ℕ) (coded× coded_ℕ (coded× coded_ℕ (coded_option note.the_row.coded)))))))
+    coded× (coded_option note.the_row.coded) (coded× (coded_list entry.the_row.coded) (coded× (coded_list entry.the_row.coded) (coded× coded_ℕ (coded× (coded_option coded_ℕ) (coded× coded_ℕ (coded× coded_ℕ (coded× coded_ℕ (coded× coded_ℕ (coded_option note.the_row.coded)))))))))
 
 abbrev pub seat_code : Coded SeatSeen
 seat_code =
     code_by (SeatPlace × SeatKnown) (coded× seat_place_code seat_known_code)
-    (λ v. ((v.lock, (v.opening, (v.seats, (v.number, (v.inside, v.state))))), (v.note, (v.own, (v.seen, (v.refused, (v.refused_by, (v.leaves, (v.emptied, v.last_emptied)))))))))
+    (λ v. ((v.lock, (v.opening, (v.seats, (v.number, (v.inside, v.state))))), (v.note, (v.own, (v.seen, (v.refused, (v.refused_by, (v.leaves, (v.told, (v.told_files, (v.emptied, v.last_emptied)))))))))))
     (λ p. record {
       lock = p.0.0;
       opening = p.0.1.0;
@@ -46,8 +46,10 @@ seat_code =
       refused = p.1.1.1.1.0;
       refused_by = p.1.1.1.1.1.0;
       leaves = p.1.1.1.1.1.1.0;
-      emptied = p.1.1.1.1.1.1.1.0;
-      last_emptied = p.1.1.1.1.1.1.1.1;
+      told = p.1.1.1.1.1.1.1.0;
+      told_files = p.1.1.1.1.1.1.1.1.0;
+      emptied = p.1.1.1.1.1.1.1.1.1.0;
+      last_emptied = p.1.1.1.1.1.1.1.1.1.1;
     }) (λ _. refl)
 
 abbrev pub caller_code : Coded CallerSeen

@@ -5,6 +5,7 @@ pub mod Rooms
 pub mod Since
 pub mod SinceLaws
 pub mod Steps
+pub mod Tells
 pub mod Tries
 pub mod Turns
 pub mod Visits

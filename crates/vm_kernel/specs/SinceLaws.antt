@@ -7,8 +7,9 @@ use Rattle.std.proofs.lemmas.List.{get_or-set_same, get_or-set_other}
 use mathlib.Core.Option.{some, some-injective, some-ne-none}
 use lib.ListN.{get_elem?}
 use Rattle.vm_core.specs.vm_types.declared.call.Entry.{Entry}
-use Rattle.vm_core.specs.vm_world.Events.{IsEvent, IsSince}
-use Rattle.vm_core.specs.vm_world.State.{KernelState, Seats, Sent, seats_of, with_sent}
+use Rattle.vm_core.specs.vm_world.Events.{IsEvent, IsSince, moment_of}
+use Rattle.vm_core.specs.vm_world.Opening.{no_seats}
+use Rattle.vm_core.specs.vm_world.State.{KernelState, Seats, Sent, notes_of, seats_of, with_sent}
 use Rattle.vm_kernel.specs.Since.{seat_of_entry, history_of, IsSinceOpening, Moves}
 
 -- the note of a seat, as the lock's list has it
@@ -35,10 +36,10 @@ since-then opening s t seats seat before after was at event = record {
   fixed = event.fixed ∙ was.fixed;
   disks = λ number. event.disks was.starts.0 seats at (was.fits was.starts.0 was.starts.1) number ∙ was.disks number;
   follows = λ F so. event.follows F (was.follows F so);
-  unkept = λ F fit tell.
-      let late = event.unkept F seats at (was.fits F fit) tell in
-      let early = was.unkept F fit late.0 in
-      (early.0, λ disk block none. let l = late.1 disk block none in let e = early.1 disk block l.0 in (e.0, l.1 ∙ e.1));
+  accounts = λ F fit tell.
+      let late = event.accounts F seats at (was.fits F fit) tell in
+      let early = was.accounts F fit late.0 in
+      (early.0, late.1 (moment_of opening (notes_of no_seats)) early.1);
 }
 
 pub state_keeps : (opening s t : KernelState) (notes : List (Option Sent)) (k : ℕ) (n m : Option Sent) → IsSinceOpening opening s notes → get_elem? notes k ≡ some n → Moves k s n t m → IsSinceOpening opening t (slice_set notes k m)

@@ -6,7 +6,8 @@ use Rattle.vm_core.specs.vm_types.declared.call.Reply.{Reply}
 use Rattle.vm_core.specs.vm_world.State.{KernelState, Sent}
 use Rattle.vm_kernel.specs.Callers.{KernelSeen, SeatSeen, CallerSeen}
 use Rattle.vm_kernel.specs.Since.{seat_of_entry, history_of, IsSinceOpening}
-use Rattle.vm_kernel.specs.Visits.{LeavesTry, LeavesEnd, LeavesHand}
+use Rattle.vm_kernel.specs.Tells.{TellsTry}
+use Rattle.vm_kernel.specs.Visits.{LeavesTelling, LeavesEnd, LeavesHand}
 use Rattle.vm_kernel.specs.declared.steps.Tried.{Tried}
 
 -- The seat was refused: another had the state.
@@ -17,14 +18,17 @@ FindsLockHeld v w = (by : ℕ) × (w ≡ after_refusal v by)
 abbrev pub MayFind : KernelSeen → SeatSeen → KernelState → Type 0
 MayFind k v s = IsEntered seat_of_entry history_of IsSinceOpening k.opening k.seats (part_of v) s
 
--- The seat went in, tried this call of this process, and left, and the try came to this.
+-- The seat went in, tried this call of this process, left and told of it, and the try came to this.
 pub record TriesInside (k : KernelSeen) (p : ℕ) (call : Call) (v w : SeatSeen) (tried : Result Tried (Unit {0})) : Type 0 where
   pub found : KernelState
   pub finds : MayFind k v found
   pub note : Option Sent
-  pub leaves : LeavesTry (after_enter v found) found p call w note tried
+  pub changes : ℕ
+  pub files : ℕ
+  pub tells : TellsTry call tried changes files
+  pub leaves : LeavesTelling changes files (after_enter v found) found p call w note tried
 
--- The seat went in, ended the transfer that it had out for this call of this process, and left.
+-- The seat went in, ended the transfer that it had out for this call of this process, left and told of it.
 pub record EndsInside (k : KernelSeen) (p : ℕ) (call : Call) (v w : SeatSeen) : Type 0 where
   pub found : KernelState
   pub finds : MayFind k v found

@@ -17,9 +17,13 @@ use Rattle.vm_core.specs.vm_world.ServingLaws.{done_entry}
 use Rattle.vm_core.specs.vm_world.State.{KernelState, Sent}
 use Rattle.vm_core.specs.vm_world.Wants.{MayHold, seat_in}
 use Rattle.vm_kernel.specs.Callers.{KernelSeen, SeatSeen, CallerSeen, ShowsOwn}
+use Rattle.vm_core.specs.fault_entry.Accesses.{IsAccess}
 use Rattle.vm_core.specs.fault_entry.declared.answers.Answer.{Answer}
 use Rattle.vm_core.specs.fault_entry.declared.answers.Answer.TheVariants as answer
 use Rattle.vm_kernel.specs.Steps.{IsNoteFor}
+use Rattle.vm_kernel.specs.Tells.{files_of}
+use Rattle.vm_kernel.specs.declared.turn.Bell.{Bell}
+use Rattle.vm_kernel.specs.declared.turn.Bell.TheVariants.{Leaves, Changes, Files}
 use Rattle.vm_kernel.specs.declared.turn.Ended.{Ended}
 use Rattle.vm_kernel.specs.declared.turn.Ended.TheVariants as ended
 use Rattle.vm_kernel.specs.declared.turn.Quick.{Quick}
@@ -44,7 +48,7 @@ pub record MayCall (k : KernelSeen) (c : CallerSeen) (call : Call) : Type 0 wher
   pub next : MayComeNext k.opening.parents k.opening.entries c.seat.own c.process call
   pub hand : IsForCall c.process call c.seat.note
 
--- The caller is the same, has seen no less, its own entries among it, and its counts didn't fall.
+-- The caller is the same, has seen no less, its own entries among it, and its counts didn't fall. For each transfer that came home it told of a change.
 pub record CallerGoesOn (c d : CallerSeen) : Type 0 where
   pub process : d.process ≡ c.process
   pub number : d.seat.number ≡ c.seat.number
@@ -53,6 +57,8 @@ pub record CallerGoesOn (c d : CallerSeen) : Type 0 where
   pub refused : c.seat.refused ≤ d.seat.refused
   pub leaves : c.seat.leaves ≤ d.seat.leaves
   pub emptied : c.seat.emptied ≤ d.seat.emptied
+  pub told : c.seat.told + d.seat.emptied ≤ d.seat.told + c.seat.emptied
+  pub told_files : c.seat.told_files ≤ d.seat.told_files
 
 -- How often a caller tried the lock: each time it was refused, or went in and left.
 abbrev pub lock_tries : CallerSeen → ℕ
@@ -71,10 +77,12 @@ pub record TriesRound (c d : CallerSeen) : Type 0 where
 abbrev pub IsOneTurn : CallerSeen → CallerSeen → Type 0
 IsOneTurn c d = TriesOnce c d ⊎ TriesRound c d
 
--- So many moves of a hand of the clock were made, and so many pushes that they began came home: the caller left the lock once for each of both.
+-- So many moves of a hand of the clock were made, and so many pushes that they began came home: the caller left the lock once for each of both, and told once of
+-- each push.
 pub record MovesHands (c : CallerSeen) (moves pushes : ℕ) (d : CallerSeen) : Type 0 where
   pub leaves : d.seat.leaves ≡ c.seat.leaves + moves + pushes
   pub emptied : d.seat.emptied ≡ c.seat.emptied + pushes
+  pub told : d.seat.told ≡ c.seat.told + pushes
 
 -- The caller has seen more, its own entries among it, and nothing else changed.
 pub record HasSeenMore (c d : CallerSeen) : Type 0 where
@@ -107,11 +115,18 @@ abbrev pub ShowsError : CallerSeen → Call → CallerSeen → Reply → Type 0
 ShowsError c call d (reply.Io disk before after) = HasFailed c call d disk before after
 ShowsError c call d r = Unit {0}
 
--- THE CALL IS DONE: exactly one entry of this process, call and reply was added, and the caller has nothing in hand.
+-- WHO IS TOLD OF AN ENTRY: who waits for a change, but where it is of a load or a store, for which nobody waits; and where it ends a call of a file, all who
+-- wait for that call.
+pub record TellsDone (c : CallerSeen) (call : Call) (d : CallerSeen) (r : Reply) : Type 0 where
+  pub change : IsAccess call ⊎ (c.seat.told < d.seat.told)
+  pub file : c.seat.told_files + files_of call r ≤ d.seat.told_files
+
+-- THE CALL IS DONE: exactly one entry of this process, call and reply was added, the caller has nothing in hand, and told of it.
 pub record IsCallDone (c : CallerSeen) (call : Call) (d : CallerSeen) (r : Reply) : Type 0 where
   pub entry : (cleared : ℕ) × (d.seat.own ≡ c.seat.own ++ done_entry c.process call r cleared ∷ [])
   pub free : d.seat.note ≡ None
   pub error : ShowsError c call d r
+  pub told : TellsDone c call d r
 
 -- Another seat holds the call up in the state that the caller left last, in this turn.
 pub record HasMet (c : CallerSeen) (call : Call) (d : CallerSeen) (h : Hold) : Type 0 where
@@ -143,11 +158,21 @@ abbrev pub IsTurn : CallerSeen → Call → CallerSeen → Turn → Type 0
 IsTurn c call d (Done r) = IsCallDone c call d r
 IsTurn c call d (Again why) = (d.seat.own ≡ c.seat.own) × IsForCall c.process call d.seat.note × HasCauseFor c call d why
 
--- Want of memory comes at a call alone that takes memory (Map, Unmap, Protect and Fork), and nothing was made.
+-- THE BELL ON WHICH SOMEBODY RESTS who is held up so: that of leaves where another had the lock; of changes where a page or a disk is out, whose seat will tell of
+-- it; of file calls where another seat is between two parts of one. After a transfer of its own it doesn't rest.
+abbrev pub bell_for : Why → Option Bell
+bell_for LockHeld = Some Leaves
+bell_for (PageBusy t) = Some Changes
+bell_for (DiskOut t) = Some Changes
+bell_for (FileBusy t) = Some Files
+bell_for Moved = None
+
+-- Want of memory comes at a call alone that takes memory (Map, Unmap, Protect and Fork), and nothing was made; the caller told that its call is over.
 pub record LacksMemory (c : CallerSeen) (call : Call) (d : CallerSeen) : Type 0 where
   pub takes : TakesMemory call
   pub none : d.seat.own ≡ c.seat.own
   pub free : d.seat.note ≡ None
+  pub told : c.seat.told < d.seat.told
 
 -- A caller that has this seat and process.
 abbrev pub caller_at : SeatSeen → ℕ → CallerSeen

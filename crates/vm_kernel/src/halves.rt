@@ -2,6 +2,7 @@
 ghost use Rattle.std.specs.Prelude.{◌≡◌, ◌⊎◌, ◌≢◌, ◌≤◌, ◌+◌, ℕ, Some, None, length, IfOk, OnErr};
 ghost use Rattle.kernel_lock.specs.Seats.{IsSeatOf};
 ghost use Rattle.vm_core.specs.fault_entry.Accesses.{IsAccess};
+ghost use Rattle.vm_core.specs.vm_types.WellFormed.{IsWellFormed};
 ghost use Rattle.vm_kernel.specs.Callers.{IsIdle};
 ghost use Rattle.vm_kernel.specs.Steps.{IsNoteFor, IsForNone};
 ghost use Rattle.vm_kernel.specs.Tries.{IsAllFor, IsAllTo, IsMove, LandsInside};
@@ -107,6 +108,7 @@ fn second_at<D: Disk>(
 ) -> Ended
     requires seat { IsSeatOf lock.now seat.old }
     requires idle { IsIdle seat.old process sent.old }
+    requires formed { IsWellFormed call.now }
     requires out { IsNoteFor process call.now seat.old.note }
     requires named { process ≡ seat.old.number + 1 }
     // The caller goes on, and what its second half comes to.

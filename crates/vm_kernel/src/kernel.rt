@@ -9,7 +9,7 @@ use crate::boxed::BoxedState;
 use crate::caller::Caller;
 use crate::halves::{access_at, end_at, move_at, turn_at};
 use crate::hits::hit_at;
-use crate::turn::{Ended, Quick, Turn, Why, reply_of};
+use crate::turn::{Bell, Ended, Quick, Turn, bell_for, reply_of};
 use kernel_lock::lock::KernelLock;
 use std::alloc::AllocError;
 use std::marker::Model;
@@ -88,11 +88,22 @@ impl<D: Disk> VmKernel<D> {
     {
         let leaves = self.lock.leaves();
         let changes = self.lock.changes();
+        let files = self.lock.files();
         let turn = self.turn(caller, call)?;
-        match turn {
-            Turn::Done(_) | Turn::Again(Why::Moved) => {}
-            Turn::Again(Why::LockHeld) => self.lock.rest(rt, leaves),
-            Turn::Again(_) => self.lock.rest_on_change(rt, changes),
+        if let Turn::Again(why) = turn {
+            match bell_for(why) {
+                None => {}
+                // Rest of `is_refused` in the model.
+                Some(Bell::Leaves) => self.lock.rest(rt, leaves),
+                // Rest of `meets_busy` in the model.
+                Some(Bell::Changes) => self.lock.rest_on_change(rt, changes),
+                Some(Bell::Files) => {
+                    // `wake_one changes` of the model: a change that woke it may let another go on, perhaps the one that has the file.
+                    self.lock.pass_on();
+                    // Rest of `meets_file_busy` in the model.
+                    self.lock.rest_on_files(rt, files);
+                }
+            }
         }
         Ok(turn)
     }
@@ -171,7 +182,8 @@ impl<D: Disk> VmKernel<D> {
         self.untried(caller, call)
     }
 
-    // A load or a store that is done so tells nobody: it passes on the wake-up that its call may have come by.
+    // A load or a store that is done so tells nobody: it passes on the wake-up that its call may have come by: `wake_one changes` of the
+    // model.
     #[inline(always)]
     fn pass_on(&self, quick: Quick) {
         match quick {
@@ -257,6 +269,7 @@ impl<D: Disk> VmKernel<D> {
             call,
         );
         if let Ended::Held = ended {
+            // Rest of `is_refused` in the model.
             self.lock.rest(rt, leaves);
         }
         ended

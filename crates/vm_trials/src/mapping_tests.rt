@@ -1,8 +1,8 @@
 //! Syncs, and mappings that change, beside another process's stores and transfers: two processes over two files on two disks in memory, of which one fails
 //! twice. What is told of each act is worked out by hand.
 use crate::tests::{Acts, Outcome, made_and_closed};
-use act_trials::Act::{Do, Land, Plan, Try};
-use act_trials::Told::{Busy, Done, Landed, Planned, Sent};
+use act_trials::Act::{Clock, Do, Land, Plan, Try};
+use act_trials::Told::{Busy, Done, Landed, Planned, Sent, Still};
 use act_trials::What::{Load, Map, Protect, Store, Sync, Unmap};
 use act_trials::{
     FAILS_AGAIN, INVALID, NO_MAP, NOT_MAPPED, PAST, PROT, READ_FAILS, STORED, Trial, make_all,
@@ -73,10 +73,42 @@ fn syncs_wait_and_are_refused(trial: &mut Trial) -> Result<(), Fail> {
     )
 }
 
+/// Both hands come by twice while the page is pushed. They clear what was said of its use, and it doesn't count as stored into for it.
+fn hands_pass_beside_a_sync(trial: &mut Trial) -> Result<(), Fail> {
+    make_all(
+        trial,
+        &[
+            (Do(0, Store(0x1_0000, 9)), STORED),
+            (Try(0, Sync(0x1_0000, 0x1000)), Sent),
+            (Clock(1, 48), Still),
+            (Land(0), Landed),
+            (Try(0, Sync(0x1_0000, 0x1000)), Done(Synced(16))),
+        ],
+    )
+}
+
+/// A Sync that has to wait is given up. The one that its process makes then is of another range, so it begins where it is made, and so
+/// does the first range's when that is synced again.
+fn a_sync_that_is_given_up_lends_no_start(trial: &mut Trial) -> Result<(), Fail> {
+    make_all(
+        trial,
+        &[
+            (Try(1, Load(0x5000)), Sent),
+            (Try(0, Sync(0x1_0000, 0x4000)), Busy(Hold::Page(1))),
+            (Land(1), Landed),
+            (Try(1, Load(0x5000)), Done(Word(0x0404_0404))),
+            (Try(0, Sync(0x1_0000, 0x2000)), Done(Synced(18))),
+            (Try(0, Sync(0x1_0000, 0x4000)), Done(Synced(19))),
+        ],
+    )
+}
+
 pub(crate) fn sync_pages(trial: &mut Trial) -> Result<(), Fail> {
     a_push_of_a_sync_fails(trial)?;
     another_process_stores_beside_a_sync(trial)?;
-    syncs_wait_and_are_refused(trial)
+    syncs_wait_and_are_refused(trial)?;
+    hands_pass_beside_a_sync(trial)?;
+    a_sync_that_is_given_up_lends_no_start(trial)
 }
 
 /// The second file is laid over the middle of a mapping, while a page that it shows there is read in for the other process.
@@ -128,8 +160,8 @@ fn a_page_is_protected_before_its_read(trial: &mut Trial) -> Result<(), Fail> {
     )
 }
 
-/// A page that was stored into is unmapped while the other process's Sync has it pushed, from a copy in the frame that is free. The
-/// translation that goes counts as a store to a page that is modified, so the page is pushed once more.
+/// A page that was stored into is unmapped while the other process's Sync has it pushed, from a copy in the frame that is free. Nobody
+/// stored into it since its push began, so the Sync is done as the push ends.
 fn a_page_is_unmapped_during_a_sync(trial: &mut Trial) -> Result<(), Fail> {
     make_all(
         trial,
@@ -138,8 +170,6 @@ fn a_page_is_unmapped_during_a_sync(trial: &mut Trial) -> Result<(), Fail> {
             (Try(1, Sync(0x2000, 0x1000)), Sent),
             (Do(0, Unmap(0x1_0000, 0x1000)), STORED),
             (Do(0, Load(0x1_0000)), NO_MAP),
-            (Land(1), Landed),
-            (Try(1, Sync(0x2000, 0x1000)), Sent),
             (Land(1), Landed),
             (Try(1, Sync(0x2000, 0x1000)), Done(Synced(17))),
         ],
@@ -187,7 +217,7 @@ fn closed_after(entries: usize) -> Outcome {
 #[test]
 fn pages_are_synced_beside_another_process(rt: HostRuntime) -> Result<(), Fail> {
     let made = made_and_closed(rt.alloc(), Acts::SyncPages)?;
-    assert_eq!(rt; made, closed_after(15));
+    assert_eq!(rt; made, closed_after(20));
     Ok(())
 }
 

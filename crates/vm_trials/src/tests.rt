@@ -384,7 +384,7 @@ fn closed(acts: Acts, disk: u32, block: u8) -> Option<[u8; 6]> {
         (Acts::UseFiles, 0, 7) => [0, 0, 0, 17, 7, 7],
         (Acts::UseFiles, 0, 8) => [0, 0, 0, 8, 8, 0],
         (Acts::UseFiles, 0, 1..=5) => [0, 0, 0, block, block, block],
-        (Acts::SyncPages, 0, 1) => [0, 0, 0, 8, 1, 1],
+        (Acts::SyncPages, 0, 1) => [0, 0, 0, 9, 1, 1],
         (Acts::SyncPages, 0, 2) => [0, 0, 0, 6, 2, 2],
         (Acts::ChangeMappings, 0, 1) => [0, 0, 0, 4, 1, 1],
         (Acts::ChangeFiles, 0, 1) => [1, 0x61, 0, 0, 0, 0],

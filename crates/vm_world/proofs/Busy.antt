@@ -431,6 +431,7 @@ module _ (page : Page) (whole : IsPage page) where
       blanks = λ name disk block j at. absurd (cc);
       places = λ seat note is writes far. absurd (no-file seat note is far);
       sent = λ seat note is writes far. absurd (no-file seat note is far);
+      origin = λ seat note is writes far. absurd (no-file seat note is far);
       out = λ seat push is. absurd (cc);
       synced = λ k b name disk block syn at. absurd (cc);
       later = λ k b seat name push syn is. absurd (cc);

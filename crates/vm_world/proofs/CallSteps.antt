@@ -25,6 +25,7 @@ use Rattle.flat_model.specs.Shapes.{RespectsShape}
 use Rattle.flat_model.specs.Step.{is_bit_set, after_act, IsDue, IsUnborn}
 use Rattle.flat_model.specs.Told.{entries_of}
 use Rattle.flat_model.proofs.WellFormed.{IsFlat-tails_cleared}
+use Rattle.vm_world.specs.declared.sync_start.SyncStart.{SyncStart}
 use Rattle.vm_world.specs.NotesFit.{NotesFit}
 use Rattle.vm_world.specs.World.{World, AllTell, is_unpushed, world_table}
 use Rattle.vm_world.specs.Marks.{MarksSeen}
@@ -59,8 +60,8 @@ use Rattle.vm_world.proofs.Changes.{machine-kept, changes-then}
 use Rattle.vm_world.proofs.Entries.{entry-history, entry-faults, entry-calls, entry-rooms, entry-births, entry-part, not-left}
 use Rattle.vm_world.proofs.MayFails.{alive-flat}
 use Rattle.vm_world.proofs.Shapes.{follows-entry, tables-shape}
-use Rattle.vm_world.proofs.StateSteps.{same-seats, disks-still, unkept-still, pages-fit, marks-stay, failures-stay}
-use Rattle.vm_world.proofs.Unkept.{unkept-before}
+use Rattle.vm_world.proofs.StateSteps.{same-seats, disks-still, accounts-still, pages-fit, marks-stay, failures-stay}
+use Rattle.vm_world.proofs.BlockAccounts.{tells-replied}
 
 -- a call that is no Fork makes no process
 unborn : (F : Flat) (call : Call) → ((child : ℕ) → call ≢ Fork child) → IsUnborn F call
@@ -156,7 +157,7 @@ risen-pushes w (name ∷ names) m entries = risen-pushes w names (marks_risen w 
     by_blank false = refl
 
 -- WHAT AN ENTRY DOES TO THE MARKS keeps them true.
-module _ (s : KernelState) (new : Memory) (seat : ℕ) (e : Entry) (calls syncs : List (Option ℕ)) (n : MarksSeen) (act : ActsOnMemory s.memory new e)
+module _ (s : KernelState) (new : Memory) (seat : ℕ) (e : Entry) (calls : List (Option ℕ)) (syncs : List (Option SyncStart)) (n : MarksSeen) (act : ActsOnMemory s.memory new e)
     (after : MarksAfterReply s.memory new e.process e.call e.reply (length s.history) s.marks n) (clean : IsCleanThen new e) (may : MayEnter s seat e) where
   abbrev made : KernelState
   made = with_entry_marked (record s { memory = new }) e calls syncs n
@@ -221,7 +222,7 @@ module _ (s : KernelState) (new : Memory) (seat : ℕ) (e : Entry) (calls syncs 
         by_call (Sync addr len) c_is told = by_reply addr len e.reply c_is refl told
         by_call c c_is same = plain c e.reply c_is refl (λ tell b answer. no-sync (flat_memory s.memory s.born (notes_of seats)) e c b c_is tt answer (acts tell).0) same
 
-pub rule-done : (s : KernelState) (new : Memory) (seat : ℕ) (e : Entry) (calls syncs : List (Option ℕ)) (n : MarksSeen) → ActsOnMemory s.memory new e
+pub rule-done : (s : KernelState) (new : Memory) (seat : ℕ) (e : Entry) (calls : List (Option ℕ)) (syncs : List (Option SyncStart)) (n : MarksSeen) → ActsOnMemory s.memory new e
     → MarksAfterReply s.memory new e.process e.call e.reply (length s.history) s.marks n → IsCleanThen new e → StaysAlive new e.process e.call → MayEnter s seat e → LocksAfter e s.calls calls → StartsAfter e s.syncs syncs → length syncs ≡ length s.syncs
     → IsEvent seat s None (with_entry_marked (record s { memory = new }) e calls syncs n) None
 rule-done s new seat e calls syncs n act after clean keeps may locks starts count = record {
@@ -239,7 +240,8 @@ rule-done s new seat e calls syncs n act after clean keeps may locks starts coun
   disks = λ opening seats is fit. disks-still s (with_entry_marked (record s { memory = new }) e calls syncs n) seat None act.machine.bays seats is;
   grown = (e ∷ [], refl, All-cons (λ (x : Entry). seat_of x.process ≡ seat) e [] may.try.own (All-nil (λ (x : Entry). seat_of x.process ≡ seat)));
   follows = λ opening was. follows-entry opening s (with_entry_marked (record s { memory = new }) e calls syncs n) e refl (λ notes. act.shaped s.born notes) (λ own. may.refusal) was;
-  unkept = λ opening seats is fit. unkept-still opening s (with_entry_marked (record s { memory = new }) e calls syncs n) seat None act.machine.bays seats is (λ tell. (act.tells (notes_of seats) fit.notes).1 tell) (unkept-before opening s.history e);
+  accounts = λ opening seats is fit. accounts-still opening s (with_entry_marked (record s { memory = new }) e calls syncs n) seat None (e ∷ []) refl
+      (tells-replied s.memory new e.process e.call e.reply (length s.history) s.marks n after) act.machine.bays seats is (λ tell. (act.tells (notes_of seats) fit.notes).1 tell);
 }
   where
     -- who is alive was born: the process itself was, and no other came

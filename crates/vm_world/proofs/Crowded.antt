@@ -61,7 +61,8 @@ use Rattle.vm_world.specs.State.{Sent, Caller, KeptPlan, notes_of, process_paren
 use Rattle.vm_world.specs.StateFits.{StateFits, PlanFits}
 use Rattle.vm_world.specs.DiskPlaces.{faults_in}
 use Rattle.vm_world.specs.HistoryFits.{HistoryFits, FaultsFit, CallsFit, RoomsFit, BirthsFit, has_left}
-use Rattle.vm_world.specs.Crowded.{crowded_part, crowded_parent, crowded_spaces, crowded_maps, crowded_slots, crowded_info, crowded_other, crowded_files, crowded_disk, crowded_store, crowded_hat, crowded_memory, crowded_snapshot, crowded_gone, crowded_seats, crowded_file, crowded_birth, crowded_read, crowded_history, crowded_state, crowded_opening, CrowdedLaw}
+use Rattle.vm_world.specs.Crowded.{crowded_part, crowded_parent, crowded_spaces, crowded_maps, crowded_slots, crowded_info, crowded_other, crowded_files, crowded_disk, crowded_store, crowded_hat, crowded_memory, crowded_snapshot, crowded_gone, crowded_seats, crowded_file, crowded_birth, crowded_read, crowded_history, crowded_start, crowded_state, crowded_opening, CrowdedLaw}
+use Rattle.vm_world.specs.declared.sync_start.SyncStart.{SyncStart}
 use Rattle.vm_world.proofs.Counting.{adds, adds-other}
 use Rattle.vm_world.proofs.CrowdedMarks.{crowded-marks, never-failed}
 use Rattle.vm_world.proofs.CutFiles.{cut-file}
@@ -831,7 +832,7 @@ module _ (page : Page) (whole : IsPage page) where
   last-is : (p : ℕ) → last_entry p (crowded_history page) ≡ cond (1 == p) (Some (crowded_read page)) (cond (1 == p) (Some crowded_birth) None)
   last-is p = refl
 
-  calls-fit : CallsFit (crowded_history page) (Some 0 ∷ None ∷ []) (None ∷ Some 1 ∷ None ∷ None ∷ [])
+  calls-fit : CallsFit (crowded_history page) (Some 0 ∷ None ∷ []) (None ∷ Some crowded_start ∷ None ∷ None ∷ [])
   calls-fit = record { ends = ends; files = λ f seat. (to f seat, from f seat); starts = starts }
     where
       ends : (front rest : List Entry) (e : Entry) → crowded_history page ≡ front ++ e ∷ rest → MayFollow front e
@@ -877,9 +878,9 @@ module _ (page : Page) (whole : IsPage page) where
         ])
       ]
 
-      starts : (seat b : ℕ) → slice_index_or (None ∷ Some 1 ∷ None ∷ None ∷ []) seat None ≡ Some b → IsStart (crowded_history page) 2 (suc seat) b
+      starts : (seat : ℕ) (b : SyncStart) → slice_index_or (None ∷ Some crowded_start ∷ None ∷ None ∷ []) seat None ≡ Some b → IsStart (crowded_history page) 2 (suc seat) b.from
       starts zero b is = absurd (cc)
-      starts (suc zero) b is = subst (λ (n : ℕ). IsStart (crowded_history page) 2 2 n) (some-inj 1 b is) (omega arith, begun)
+      starts (suc zero) b is = subst (λ (x : SyncStart). IsStart (crowded_history page) 2 2 x.from) (some-inj crowded_start b is) (omega arith, begun)
       starts (suc (suc zero)) b is = absurd (cc)
       starts (suc (suc (suc zero))) b is = absurd (cc)
       starts (suc (suc (suc (suc seat)))) b is = absurd (cc)

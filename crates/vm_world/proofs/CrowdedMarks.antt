@@ -10,6 +10,7 @@ use Rattle.flat_model.specs.Step.{step, IsStep}
 use Rattle.flat_model.specs.Words.{Page}
 use Rattle.page_store.specs.page_hash.declared.PageName.{PageName}
 use Rattle.page_store.specs.core_arena.Bytes.{zeros}
+use Rattle.page_store.specs.Bytes.{clip}
 use Rattle.page_store.specs.Notes.{Note, Notes}
 use Rattle.page_store.specs.Value.{content_of}
 use Rattle.mark_laws.specs.disk_marks.declared.marks.Mark.{Mark}
@@ -18,7 +19,7 @@ use Rattle.mark_laws.specs.disk_marks.declared.marks.Pushing.{Pushing}
 use Rattle.mark_laws.specs.disk_marks.Marks.{HasRow, mark_row, push_of, unused_row}
 use Rattle.mark_laws.specs.FileLaws.{HaveBlocks, KeepsPageBlocks}
 use Rattle.mark_laws.specs.MarksFit.{BlockFits, DiskContents, IsBeingWritten, IsOutWith, MarksFit, OfBlock, SentFits, pushed_page}
-use Rattle.mark_laws.specs.Pages.{HasPage, after_first, bytes_there, disk_place, page_there}
+use Rattle.mark_laws.specs.Pages.{ArePageOf, HasPage, after_first, bytes_there, disk_place, page_there}
 use Rattle.mark_laws.specs.Syncs.{entries_in}
 use Rattle.mark_laws.proofs.Shortened.{entries_rule}
 use Rattle.mark_laws.proofs.Shortenings.{cuts_rule}
@@ -129,6 +130,7 @@ module _ (page : Page) (sizes : (number blocks : ℕ) → finite.get crowded_fil
     places = λ seat note is writes. by_note (λ seat note. disk_place (crowded_opening page) note.name ≡ Some (note.number, note.block)) refl seat note is;
     sent = λ seat note is writes. by_note (λ seat note. SentFits (crowded_opening page) [] (mark_row crowded_marks note.number note.block) note (push_of crowded_marks seat))
         (record { name = refl; early = omega arith; page = refl; valid = refl; whole = λ is. omega arith }) seat note is;
+    origin = λ seat note is writes. by_note (λ seat note. ArePageOf (crowded_opening page) [] note.name (clip note.valid note.bytes)) (record { entries = 0; made = omega arith; inside = omega arith; same = refl }) seat note is;
     out = by_push (λ seat push. IsOutWith notes seat push) (record { note = crowded_snapshot page; there = refl; pushes = record { writes = refl; far = λ e. omega (arith, e) }; name = refl });
     inside = by_push (λ seat push. 0 < bytes_there (crowded_opening page) (pushed_page push)) (omega arith);
     synced = λ k b name disk block syn at. absurd (let z : ◌≡◌ {A = Option Entry} None (Some syn.entry) = syn.at in cc);

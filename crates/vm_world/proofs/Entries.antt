@@ -32,6 +32,7 @@ use Rattle.flat_model.proofs.Opens.{open_calls_law}
 use Rattle.flat_model.proofs.Replays.{joined_histories_law}
 use Rattle.flat_model.proofs.Starts.{sync_starts_law}
 use Rattle.flat_model.proofs.WellFormed.{stays_flat_law}
+use Rattle.vm_world.specs.declared.sync_start.SyncStart.{SyncStart}
 use Rattle.vm_world.specs.DiskPlaces.{HasCounted}
 use Rattle.vm_world.specs.HistoryFits.{HistoryFits, FaultsFit, CallsFit, RoomsFit, BirthsFit, has_left, is_exit_of}
 use Rattle.vm_world.specs.Segments.{Spaces}
@@ -106,7 +107,7 @@ by-last : (b : Bool) (e : Entry) (o : Option Entry) (P : Entry → Type 0) (Q : 
 by-last true e o P Q same = ((λ x. x), (λ x. x))
 by-last false e o P Q same = same
 
-pub entry-calls : (H : List Entry) (calls syncs calls' syncs' : List (Option ℕ)) (e : Entry) → CallsFit H calls syncs → MayFollow H e → LocksAfter e calls calls' → StartsAfter e syncs syncs' → CallsFit (H ++ e ∷ []) calls' syncs'
+pub entry-calls : (H : List Entry) (calls : List (Option ℕ)) (syncs : List (Option SyncStart)) (calls' : List (Option ℕ)) (syncs' : List (Option SyncStart)) (e : Entry) → CallsFit H calls syncs → MayFollow H e → LocksAfter e calls calls' → StartsAfter e syncs syncs' → CallsFit (H ++ e ∷ []) calls' syncs'
 entry-calls H calls syncs calls' syncs' e fit follows locks starts = record {
   ends = (open_calls_law.one_more H e).1 (fit.ends, follows);
   files = λ f seat.
@@ -117,12 +118,12 @@ entry-calls H calls syncs calls' syncs' e fit follows locks starts = record {
       );
   starts = λ seat b is.
       let old = starts seat b is in
-      let between = (sync_starts_law.between H (suc seat) b).0 (fit.starts seat b old.1) in
+      let between = (sync_starts_law.between H (suc seat) b.from).0 (fit.starts seat b old.1) in
       let same : first_start (suc seat) (H ++ e ∷ []) ≡ first_start (suc seat) H = sync_starts_law.pushed H e (suc seat) ∙ ap (λ (t : Bool). cond t (length H + 1) (first_start (suc seat) H)) old.0 in
       let more = length-append H (e ∷ []) in
       let low = between.0 in
       let high = between.1 in
-      (sync_starts_law.between (H ++ e ∷ []) (suc seat) b).1 (omega (arith, same, low), omega (arith, more, high));
+      (sync_starts_law.between (H ++ e ∷ []) (suc seat) b.from).1 (omega (arith, same, low), omega (arith, more, high));
 }
 
 -- who has no entry has no last one
@@ -182,7 +183,7 @@ entry-births H parents spaces spaces' born born' e fit lived alive stays = recor
   stays = stays;
 }
 
-pub entry-part : (H : List Entry) (calls syncs : List (Option ℕ)) (parents entries : List ℕ) (e : Entry) (seat : ℕ) → CallsFit H calls syncs → RoomsFit H parents entries → KeepsParts H → e.process ≡ suc seat → MayUseFile e seat calls → IsNextPart H e
+pub entry-part : (H : List Entry) (calls : List (Option ℕ)) (syncs : List (Option SyncStart)) (parents entries : List ℕ) (e : Entry) (seat : ℕ) → CallsFit H calls syncs → RoomsFit H parents entries → KeepsParts H → e.process ≡ suc seat → MayUseFile e seat calls → IsNextPart H e
 entry-part H calls syncs parents entries e seat fit rooms parts own may = by_file (file_of_call e.call) refl
   where
     by_lock : (f s : ℕ) → file_of_call e.call ≡ Some f → slice_index_or calls f None ≡ Some s → IsNextOwn f (suc s) (e ∷ [])

@@ -74,7 +74,7 @@ module _ (opening : Flat) (s : KernelState) (new : World) (cut : PageName → Bo
     abbrev now : ℕ → Option ℕ
     now disk = faults_in (bay_at new.store.bays disk) (with_note notes seat None)
 
-    here : now sent.note.number ≡ Some f.disk.faults
+    pub here : now sent.note.number ≡ Some f.disk.faults
     here = ap (λ (b : BaySeen). faults_in b (with_note notes seat None)) back.disk
 
     beside-back : (k : ℕ) (b : BaySeen) → k ≢ sent.note.number → bay_at bays k ≡ b → faults_in b (with_note notes seat None) ≡ faults_in b notes
@@ -82,11 +82,11 @@ module _ (opening : Flat) (s : KernelState) (new : World) (cut : PageName → Bo
     beside-back k (home d) ne e = refl
     beside-back k (out t) ne e = ap (seen_of_note (λ (d : DiskSeen). d.faults)) (with_note-other notes seat t None (λ same. ne (one k (e ∙ ap out same))))
 
-    elsewhere : (disk : ℕ) → disk ≢ sent.note.number → now disk ≡ was disk
+    pub elsewhere : (disk : ℕ) → disk ≢ sent.note.number → now disk ≡ was disk
     elsewhere disk ne = ap (λ (b : List BaySeen). faults_in (bay_at b disk) (with_note notes seat None)) step.bays.1.1
         ∙ ap (λ (b : BaySeen). faults_in b (with_note notes seat None)) (get_or-set_other bays sent.note.number disk (home step.bays.1.0) missing ne) ∙ beside-back disk (bay_at bays disk) ne refl
 
-    counts-on : CountOn was now
+    pub counts-on : CountOn was now
     counts-on disk count is = elim (cases_eq disk sent.note.number) [
       | inl e ↦
           let old : count ≡ sent.note.disk.faults =

@@ -24,6 +24,7 @@ use Rattle.flat_model.specs.OpenLaws.{MayFollow, FollowsOn, IsOpenPart, last_ent
 use Rattle.flat_model.specs.Step.{is_bit_set, IsUnborn, MayFail}
 use Rattle.flat_model.specs.Told.{entries_of}
 use Rattle.flat_model.proofs.WellFormed.{IsFlat-tails_cleared}
+use Rattle.vm_world.specs.declared.sync_start.SyncStart.{SyncStart}
 use Rattle.vm_world.specs.World.{World, AllTell}
 use Rattle.vm_world.specs.HistoryFits.{HistoryFits}
 use Rattle.vm_world.specs.Marks.{MarksSeen}
@@ -34,7 +35,7 @@ use Rattle.vm_world.proofs.Answered.{state_entries_rule}
 use Rattle.vm_world.specs.FlatMemory.{flat_memory}
 use Rattle.vm_world.specs.DiskPlaces.{HasCounted, faults_in, seen_of_note}
 use Rattle.vm_world.specs.EntryLaws.{LocksAfter, StartsAfter, MayUseFile}
-use Rattle.vm_world.specs.Events.{IsEvent}
+use Rattle.vm_world.specs.Events.{IsEvent, moment_of}
 use Rattle.vm_world.specs.Failures.{io_entry, with_entry_made, FailureRule}
 use Rattle.vm_world.specs.State.{KernelState, Seats, Sent, KeptPlan, notes_of, with_sent, fixed_of, seat_of, room_of}
 use Rattle.vm_world.specs.StateFits.{StateFits, CallerFits}
@@ -46,7 +47,7 @@ use Rattle.vm_world.proofs.Callers.{caller-longer}
 use Rattle.vm_world.proofs.FlatWhole.{some-inj}
 use Rattle.vm_world.proofs.NextParts.{follows-part}
 use Rattle.vm_world.proofs.StateSteps.{rule-ends, caller-step, pages-fit, this-seat}
-use Rattle.vm_world.proofs.Unkept.{unkept-before}
+use Rattle.mark_laws.proofs.Accounts.{accounts_rule}
 
 -- no device error of a disk names more than a bound that holds of each
 last-below : (disk c last : ℕ) (H : List Entry) → ((k : ℕ) (e : Entry) (before after : ℕ) → slice_get H k ≡ Some e → e.reply ≡ Io disk before after → after ≤ c) → last ≤ c → fold (count_after disk) last H ≤ c
@@ -89,7 +90,7 @@ io-answered files (Truncate f len) disk before after entries m = refl
 io-answered files call disk before after entries m = refl
 
 -- THE ENTRY of a device error, in a state whose flight has come back.
-io-fits : (opening : Flat) (s : KernelState) (seats : Seats) (seat p : ℕ) (call : Call) (disk before after : ℕ) (calls syncs : List (Option ℕ)) → StateFits opening s seats → seats seat ≡ None → seat_of p ≡ seat
+io-fits : (opening : Flat) (s : KernelState) (seats : Seats) (seat p : ℕ) (call : Call) (disk before after : ℕ) (calls : List (Option ℕ)) (syncs : List (Option SyncStart)) → StateFits opening s seats → seats seat ≡ None → seat_of p ≡ seat
     → CallerFits (flat_memory s.memory s.born (notes_of seats)) s.history s.entries seat (p, call) → IsCountedRise before after → last_count disk s.history ≤ before
     → HasCounted s.memory.world.store.bays (notes_of seats) disk after
     → LocksAfter (io_entry p call disk before after s.pending) s.calls calls → StartsAfter (io_entry p call disk before after s.pending) s.syncs syncs
@@ -162,7 +163,7 @@ io-fits opening s seats seat p call disk before after calls syncs fit idle own c
         by_last (Some d) is next = follows-part f d (io_entry p call disk before after s.pending) is next
 
 -- A FLIGHT THAT FAILED COMES BACK.
-rule-fails : (s : KernelState) (new : World) (cut : PageName → Bool) (pending seat p : ℕ) (call : Call) (sent : Sent) (f : FlightSeen) (calls syncs : List (Option ℕ)) → WorldStep s.memory.world new s.memory.spaces (returns seat sent.note) cut → PendsTails s.memory.world cut s.pending pending
+rule-fails : (s : KernelState) (new : World) (cut : PageName → Bool) (pending seat p : ℕ) (call : Call) (sent : Sent) (f : FlightSeen) (calls : List (Option ℕ)) (syncs : List (Option SyncStart)) → WorldStep s.memory.world new s.memory.spaces (returns seat sent.note) cut → PendsTails s.memory.world cut s.pending pending
     → sent.of ≡ Some (p, call) → seat_of p ≡ seat → ComesBack sent.note f new → f.outcome ≡ failed
     → LocksAfter (io_entry p call f.number f.before f.disk.faults pending) s.calls calls → StartsAfter (io_entry p call f.number f.before f.disk.faults pending) s.syncs syncs → length syncs ≡ length s.syncs
     → IsEvent seat s (Some sent) (with_entry_made (after_return s new pending seat sent.note f) (io_entry p call f.number f.before f.disk.faults pending) calls syncs) None
@@ -192,9 +193,14 @@ rule-fails s new cut pending seat p call sent f calls syncs step tails for_call 
       grown = (io_entry p call f.number f.before f.disk.faults pending ∷ [], refl, All-cons (λ (x : Entry). seat_of x.process ≡ seat) (io_entry p call f.number f.before f.disk.faults pending) [] own (All-nil (λ (x : Entry). seat_of x.process ≡ seat)));
       follows = λ opening was. follows-entry opening (after_return s new pending seat sent.note f) (with_entry_made (after_return s new pending seat sent.note f) (io_entry p call f.number f.before f.disk.faults pending) calls syncs) (io_entry p call f.number f.before f.disk.faults pending) refl
           (λ notes. refl) (λ own. absurd (let z : true ≡ false = own in cc)) (event.follows opening was);
-      unkept = λ opening seats is fit tell.
-          let ended = event.unkept opening seats is fit tell in
-          (ended.0, λ disk block none. ended.1 disk block (unkept-before opening s.history (io_entry p call f.number f.before f.disk.faults pending) disk block none));
+      accounts = λ opening seats is fit tell.
+          let ended = event.accounts opening seats is fit tell in
+          let back = moment_of (after_return s new pending seat sent.note f) (notes_of (with_sent seats seat None)) in
+          let told = moment_of (with_entry_made (after_return s new pending seat sent.note f) (io_entry p call f.number f.before f.disk.faults pending) calls syncs) (notes_of (with_sent seats seat None)) in (
+            ended.0,
+            λ first up. accounts_rule.and_then opening first back told (ended.1 first up)
+                (accounts_rule.still opening back told (io_entry p call f.number f.before f.disk.faults pending ∷ []) refl (λ disk block low. refl) (λ disk count at. (count, at, omega arith)) (λ disk block at. at)),
+          );
     }
 
 pub failure_rule : FailureRule

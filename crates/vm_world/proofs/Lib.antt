@@ -14,9 +14,10 @@ pub mod OpeningFits
 pub mod Places
 pub mod FilesNow
 pub mod Contents
-pub mod Unkept
 pub mod Moving
 pub mod Failed
+pub mod BlockAccounts
+pub mod AccountsReturned
 pub mod Raised
 pub mod Answered
 pub mod Synced

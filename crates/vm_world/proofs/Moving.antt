@@ -36,7 +36,6 @@ use Rattle.vm_world.specs.World.{World, world_table, page_exists, is_unpushed, f
 use Rattle.vm_world.specs.WorldSteps.{WorldStep, leaves, returns}
 use Rattle.vm_world.proofs.FlatWhole.{some-inj}
 use Rattle.vm_world.proofs.PageNames.{not-slot}
-use Rattle.vm_world.specs.Events.{IsUnkept, LeavesUnkept}
 use Rattle.vm_world.specs.MarksOf.{MarksOf, SendsFrame, marks_ended}
 use Rattle.vm_world.specs.StateMarks.{PagesFit, StateMarksLaw}
 use Rattle.mark_laws.proofs.Along.{before-some}
@@ -146,17 +145,17 @@ module _ (opening : Flat) (s : KernelState) (new : World) (cut : PageName → Bo
     abbrev was : ℕ → Option (List (List ℕ))
     was k = content_in_bay (bay_at s.memory.world.store.bays k) (notes_of seats)
 
-    here : now sent.note.number ≡ f.disk.content
+    pub here : now sent.note.number ≡ f.disk.content
     here = ap (λ (b : BaySeen). content_in_bay b (with_note (notes_of seats) seat None)) back.disk
 
-    there : was sent.note.number ≡ sent.note.disk.content
+    pub there : was sent.note.number ≡ sent.note.disk.content
     there = content-noted w.store.bays new.store.bays notes seat sent.note step.bays.1.0 noted one step.bays.0 step.bays.1.1
 
-    elsewhere : (k : ℕ) → k ≢ sent.note.number → now k ≡ was k
+    pub elsewhere : (k : ℕ) → k ≢ sent.note.number → now k ≡ was k
     elsewhere k ne = content-apart w.store.bays new.store.bays notes seat sent.note step.bays.1.0 noted one step.bays.0 step.bays.1.1 k ne
 
     -- what became of the disk
-    other-block : (block : ℕ) → (sent.note.writes ≡ true → block ≢ sent.note.block) → block_of f.disk.content block ≡ block_of sent.note.disk.content block
+    pub other-block : (block : ℕ) → (sent.note.writes ≡ true → block ≢ sent.note.block) → block_of f.disk.content block ≡ block_of sent.note.disk.content block
     other-block block far = elim (cases_Bool sent.note.writes) [
       | inl writes ↦ by_outcome f.outcome (back.performed.written writes) (far writes)
       | inr reads ↦ ap (λ (c : Option (List (List ℕ))). block_of c block) (back.performed.unchanged reads)
@@ -172,7 +171,7 @@ module _ (opening : Flat) (s : KernelState) (new : World) (cut : PageName → Bo
         by_outcome failed w ne = ap (λ (c : Option (List (List ℕ))). block_of c block) w.2 ∙ set-other sent.note.disk.content w.0 ne
 
     -- a slot's page is on no disk of files
-    swap-far : sent.note.name.object ≡ 64 → (disk : ℕ) → disk < 8 → disk ≢ sent.note.number
+    pub swap-far : sent.note.name.object ≡ 64 → (disk : ℕ) → disk < 8 → disk ≢ sent.note.number
     swap-far slot disk low same =
         let at = agrees.disk in
         elim (place-cases (map file_blocks s.memory.world.files.files) (length s.memory.world.anon.counts) (is_unpushed s.memory.world.files s.memory.world.anon) sent.note.name) [
@@ -240,23 +239,6 @@ module _ (opening : Flat) (s : KernelState) (new : World) (cut : PageName → Bo
 
       ended : MarksFit opening s.history now (with_note (notes_of seats) seat None) (marks_ended m seat sent.note (length s.history) f)
       ended = by_write sent.note.writes (sent.note.name.object == 64) refl refl
-
-    -- blocks that no file keeps are as they were: a push of a file's page goes to its place
-    pub unkept-end : LeavesUnkept opening s (notes_of seats) (after_step s new pending) (notes_of (with_sent seats seat None))
-    unkept-end = subst (λ (n : Notes). LeavesUnkept opening s (notes_of seats) (after_step s new pending) n) (sym (notes-return seats seat))
-        (λ tell. let old = (step.tells notes noted fit.notes).1 tell in (old, λ disk block none. (none, same old disk block none)))
-      where
-        same : AllTell s.memory.world (notes_of seats) → (disk block : ℕ) → IsUnkept (replay opening s.history) disk block → block_of (now disk) block ≡ block_of (was disk) block
-        same tell disk block none = elim (cases_eq disk sent.note.number) [
-          | inl e ↦ subst (λ (k : ℕ). block_of (now k) block ≡ block_of (was k) block) (sym e)
-              (ap (λ (c : Option (List (List ℕ))). block_of c block) here
-              ∙ other-block block (λ writes at. elim (cases_eq sent.note.name.object 64) [
-                | inl slot ↦ swap-far slot disk none.0 e
-                | inr far ↦ none.1 sent.note.name ((marks tell).places seat sent.note noted writes far ∙ (λ i. Some (sym e i, sym at i)))
-              ])
-              ∙ sym (ap (λ (c : Option (List (List ℕ))). block_of c block) there))
-          | inr ne ↦ ap (λ (c : Option (List (List ℕ))). block_of c block) (elsewhere disk ne)
-        ]
 
     pub marks-end : MarksOf opening (after_step s new pending) (with_sent seats seat None) (marks_ended m seat sent.note (length s.history) f)
     marks-end = subst (λ (n : Notes). AllTell new n → MarksFit opening s.history (content_of new.store n) n (marks_ended m seat sent.note (length s.history) f)) (sym (notes-return seats seat))

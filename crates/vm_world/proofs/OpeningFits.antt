@@ -26,6 +26,7 @@ use Rattle.flat_model.specs.vnode_files.Vnode.{is_blank}
 use Rattle.mark_laws.specs.disk_marks.declared.marks.Mark.{Mark}
 use Rattle.mark_laws.specs.disk_marks.declared.marks.Mark.TheVariants.{Held, Blank, Unsure}
 use Rattle.mark_laws.specs.disk_marks.declared.marks.MarkRow.{MarkRow}
+use Rattle.mark_laws.specs.AccountLaws.{IsUnsure}
 use Rattle.vm_world.proofs.OpeningRows.{opening-marks}
 use Rattle.vm_world.proofs.Openings.{opening-memory, opening-notes, opening-pages, opening-history, opening-faults, opening-calls}
 
@@ -34,14 +35,16 @@ never-unsure : (blank : Bool) (j before after : ℕ) → (opening_row blank).mar
 never-unsure true j before after is = let z : ◌≡◌ {A = Mark} (Blank 0) (Unsure j before after) = is in cc
 never-unsure false j before after is = let z : ◌≡◌ {A = Mark} (Held 0) (Unsure j before after) = is in cc
 
-opening-failures : (s : KernelState) → IsOpening s → FailuresOf s no_seats s.marks
-opening-failures s o disk block j before after is =
-    absurd (never-unsure true j before after (sym (ap (λ (r : MarkRow). r.mark) (o.marks.free disk block free)) ∙ is))
+pub opening-sure : (s : KernelState) → IsOpening s → (disk block : ℕ) → ¬ IsUnsure s.marks disk block
+opening-sure s o disk block unsure = never-unsure true unsure.0 unsure.1 unsure.2 (sym (ap (λ (r : MarkRow). r.mark) (o.marks.free disk block free)) ∙ unsure.3)
   where
     free : HasNoPage s.memory.world.files disk block
     free file page within below on its =
-        never-unsure (is_blank (vnode_at s.memory.world.files file) page) j before after
-        (ap (λ (r : MarkRow). r.mark) (sym (o.marks.pages file page within below) ∙ (λ i. mark_row s.marks (on i) (its i))) ∙ is)
+        never-unsure (is_blank (vnode_at s.memory.world.files file) page) unsure.0 unsure.1 unsure.2
+        (ap (λ (r : MarkRow). r.mark) (sym (o.marks.pages file page within below) ∙ (λ i. mark_row s.marks (on i) (its i))) ∙ unsure.3)
+
+opening-failures : (s : KernelState) → IsOpening s → FailuresOf s no_seats s.marks
+opening-failures s o disk block j before after is = absurd (opening-sure s o disk block (j, before, after, is))
 
 -- THE OPENING.
 opening-fits : (s : KernelState) → IsOpening s → StateFits (flat_memory s.memory s.born no_notes) s no_seats

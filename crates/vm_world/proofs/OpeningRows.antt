@@ -267,6 +267,7 @@ module _ (s : KernelState) (m : MarksSeen) (seats : ℕ) (o : IsOpening s) (mark
         (λ is e. absurd (let z : Held 0 ≡ Blank j = e in cc));
     places = λ seat note is _ _. absurd (cc);
     sent = λ seat note is _ _. absurd (cc);
+    origin = λ seat note is _ _. absurd (cc);
     out = λ seat push is. absurd (let z : ◌≡◌ {A = Option Pushing} None (Some push) = sym (ap (λ (ps : List (Option Pushing)). slice_index_or ps seat None) marks.pushes ∙ none-out seats seat) ∙ is in cc);
     inside = λ seat push is. absurd (let z : ◌≡◌ {A = Option Pushing} None (Some push) = sym (ap (λ (ps : List (Option Pushing)). slice_index_or ps seat None) marks.pushes ∙ none-out seats seat) ∙ is in cc);
     synced = λ k b name disk block syn at. absurd (let z : ◌≡◌ {A = Option Entry} None (Some syn.entry) = syn.at in cc);

@@ -9,6 +9,7 @@ use Rattle.page_store.specs.declared.plan.Hold.{Hold}
 use Rattle.page_store.specs.declared.plan.Hold.TheVariants as hold
 use Rattle.page_store.specs.declared.plan.Plan.{Plan}
 use Rattle.flat_model.specs.Flat.{Flat}
+use Rattle.vm_world.specs.declared.sync_start.SyncStart.{SyncStart}
 use Rattle.vm_world.specs.CallSteps.{StaysAlive}
 use Rattle.vm_world.specs.EntryLaws.{LocksAfter, StartsAfter}
 use Rattle.vm_world.specs.Events.{IsEvent, CanTry, MayBear}
@@ -57,7 +58,7 @@ marks-then old mid new tables p (Sync addr len) (Synced b) entries m n after = a
 marks-then old mid new tables p call reply entries m n after = after ∙ answered-same old.world.files mid.world.files tables.infos call reply (suc entries) m
 
 -- DONE: frames are taken, and then the call is done.
-serves-done : (s : KernelState) (new : Memory) (seat p more : ℕ) (call : Call) (reply : Reply) (calls syncs : List (Option ℕ)) (n : MarksSeen) → CanTry s seat p call → ServesDone s.memory new s.pending more p call reply → StaysAlive new p call → MayAnswer s seat p call reply
+serves-done : (s : KernelState) (new : Memory) (seat p more : ℕ) (call : Call) (reply : Reply) (calls : List (Option ℕ)) (syncs : List (Option SyncStart)) (n : MarksSeen) → CanTry s seat p call → ServesDone s.memory new s.pending more p call reply → StaysAlive new p call → MayAnswer s seat p call reply
     → LocksAfter (done_entry p call reply more) s.calls calls → StartsAfter (done_entry p call reply more) s.syncs syncs → length syncs ≡ length s.syncs
     → MarksAfterReply s.memory new p call reply (length s.history) s.marks n
     → IsEvent seat s None (with_entry_marked (record s { memory = new }) (done_entry p call reply more) calls syncs n) None

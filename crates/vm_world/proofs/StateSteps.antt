@@ -17,6 +17,8 @@ use Rattle.mark_laws.specs.disk_marks.Changes.{marks_begun}
 use Rattle.mark_laws.specs.MarkLaws.{marks_by}
 use Rattle.mark_laws.specs.MarksFit.{PushesFile, MarksFit, FailuresFit}
 use Rattle.mark_laws.proofs.Failing.{failures_rule}
+use Rattle.mark_laws.specs.AccountLaws.{TellsNoMore}
+use Rattle.mark_laws.proofs.Accounts.{accounts_rule}
 use Rattle.flat_model.specs.vnode_files.Vnode.{VnodeSeen}
 use Rattle.flat_model.specs.Counted.{top_count}
 use Rattle.flat_model.specs.Flat.{Flat, IsFlat}
@@ -34,7 +36,7 @@ use Rattle.vm_world.specs.NotesFit.{NotesFit}
 use Rattle.vm_world.specs.Plans.{CanRunPlan, MayMeetFault}
 use Rattle.vm_world.specs.State.{KernelState, Seats, Sent, Caller, KeptPlan, notes_of, with_sent, fixed_of, seat_of}
 use Rattle.vm_world.specs.StateFits.{StateFits, CallerFits, PlanFits}
-use Rattle.vm_world.specs.Events.{IsEvent, IsUnkept, LeavesUnkept, CanTry}
+use Rattle.vm_world.specs.Events.{IsEvent, KeepsAccounts, CanTry, moment_of}
 use Rattle.vm_world.specs.StateMarks.{PagesFit}
 use Rattle.vm_world.specs.StateSteps.{after_step, after_leaving, after_return, PendsTails, ComesBack, StateRule}
 use Rattle.vm_world.specs.WorldSteps.{Trip, stays, leaves, returns, HasTrip, notes_after, WorldStep, tails_lost}
@@ -47,8 +49,10 @@ use Rattle.vm_world.proofs.FlatWhole.{some-inj}
 use Rattle.vm_world.proofs.Callers.{caller-kept, same-modes}
 use Rattle.vm_world.proofs.MayFails.{alive-flat}
 use Rattle.vm_world.proofs.Contents.{content-leaves}
-use Rattle.vm_world.proofs.Moving.{performed-tells, state_marks_rule, unkept-end}
+use Rattle.vm_world.proofs.Moving.{performed-tells, state_marks_rule}
 use Rattle.vm_world.proofs.Failed.{state_failures_rule}
+use Rattle.vm_world.proofs.AccountsReturned.{accounts-return}
+use Rattle.vm_world.proofs.BlockAccounts.{keeps-accounts}
 use Rattle.vm_world.proofs.PageNames.{not-slot}
 
 -- the notes of seats one of which has something else outside
@@ -86,13 +90,20 @@ pub disks-still : (s t : KernelState) (seat : ℕ) (sent : Option Sent) → t.me
 disks-still s t seat sent bays seats is number =
     ap (λ (x : Seats). disk_there t x number) (same-seats seats seat sent is) ∙ ap (λ (b : List BaySeen). seen_in disk_fixed (bay_at b number) (notes_of seats)) bays
 
--- .. and what no file keeps was kept by none before
-pub unkept-still : (opening : Flat) (s t : KernelState) (seat : ℕ) (sent : Option Sent) → t.memory.world.store.bays ≡ s.memory.world.store.bays → (seats : Seats) → seats seat ≡ sent
-    → (AllTell t.memory.world (notes_of seats) → AllTell s.memory.world (notes_of seats)) → ((disk block : ℕ) → IsUnkept (replay opening t.history) disk block → IsUnkept (replay opening s.history) disk block)
-    → LeavesUnkept opening s (notes_of seats) t (notes_of (with_sent seats seat sent))
-unkept-still opening s t seat sent bays seats is tells before =
-    subst (λ (x : Seats). LeavesUnkept opening s (notes_of seats) t (notes_of x)) (sym (same-seats seats seat sent is))
-    (λ tell. (tells tell, λ disk block none. (before disk block none, ap (λ (b : List BaySeen). block_of (content_in_bay (bay_at b disk) (notes_of seats)) block) bays)))
+-- .. and each block is accounted for: no entry cuts a block off, and no mark tells of another failure
+pub accounts-still : (opening : Flat) (s t : KernelState) (seat : ℕ) (sent : Option Sent) (added : List Entry) → t.history ≡ s.history ++ added → TellsNoMore s.marks t.marks → t.memory.world.store.bays ≡ s.memory.world.store.bays
+    → (seats : Seats) → seats seat ≡ sent → (AllTell t.memory.world (notes_of seats) → AllTell s.memory.world (notes_of seats)) → KeepsAccounts opening s (notes_of seats) t (notes_of (with_sent seats seat sent))
+accounts-still opening s t seat sent added long less bays seats is tells =
+    subst (λ (x : Seats). KeepsAccounts opening s (notes_of seats) t (notes_of x)) (sym (same-seats seats seat sent is))
+    (keeps-accounts opening s t (notes_of seats) (notes_of seats) (λ tell. (
+      tells tell,
+      accounts_rule.still opening (moment_of s (notes_of seats)) (moment_of t (notes_of seats)) added long
+          (λ disk block low. ap (λ (b : List BaySeen). block_of (content_in_bay (bay_at b disk) (notes_of seats)) block) bays)
+          (λ disk count at. (count, ap (λ (b : List BaySeen). faults_in (bay_at b disk) (notes_of seats)) bays ∙ at, omega arith)) less,
+    )))
+
+no-more : (m : MarksSeen) → TellsNoMore m m
+no-more m disk block is = is
 
 module _ (s : KernelState) (new : World) (trip : Trip) (cut : PageName → Bool) (pending : ℕ) (step : WorldStep s.memory.world new s.memory.spaces trip cut) (tails : PendsTails s.memory.world cut s.pending pending) where
   fixed-same : fixed_of (after_step s new pending) ≡ fixed_of s
@@ -184,7 +195,7 @@ rule-calm s new cut pending seat sent step tails = record {
   disks = λ opening seats is fit. disks-still s (after_step s new pending) seat sent step.bays seats is;
   grown = no-entries s.history seat;
   follows = λ opening was. follows-kept opening s new pending step.tables was;
-  unkept = λ opening seats is fit. unkept-still opening s (after_step s new pending) seat sent step.bays seats is (λ tell. (step.tells (notes_of seats) tt fit.notes).1 tell) (λ disk block none. none);
+  accounts = λ opening seats is fit. accounts-still opening s (after_step s new pending) seat sent [] (sym (append-nil s.history)) (no-more s.marks) step.bays seats is (λ tell. (step.tells (notes_of seats) tt fit.notes).1 tell);
 }
 
 -- A PLAN IS KEPT.
@@ -196,8 +207,8 @@ rule-plans s new cut pending kept step tails runs seated may = record {
   disks = λ opening seats is fit. disks-still s (record (after_step s new pending) { plan = Some kept }) kept.seat None step.bays seats is;
   grown = no-entries s.history kept.seat;
   follows = λ opening was. let f = follows-kept opening s new pending step.tables was in record { shape = f.shape; refusals = f.refusals };
-  unkept = λ opening seats is fit.
-      unkept-still opening s (record (after_step s new pending) { plan = Some kept }) kept.seat None step.bays seats is (λ tell. (step.tells (notes_of seats) tt fit.notes).1 tell) (λ disk block none. none);
+  accounts = λ opening seats is fit.
+      accounts-still opening s (record (after_step s new pending) { plan = Some kept }) kept.seat None [] (sym (append-nil s.history)) (no-more s.marks) step.bays seats is (λ tell. (step.tells (notes_of seats) tt fit.notes).1 tell);
 }
   where
     caller : (notes : Notes) (of : Caller) → kept.of ≡ Some of → CallerFits (flat_memory (record s.memory { world = new }) s.born notes) s.history s.entries kept.seat of
@@ -292,21 +303,26 @@ rule-begins s new cut pending seat sent kept step tails plan mine of_is sends = 
       ∙ seen-leaves disk_fixed s.memory.world.store.bays new.store.bays (notes_of seats) seat sent.note idle (noted opening seats fit) step.bays.0 step.bays.1 number;
   grown = no-entries s.history seat;
   follows = λ opening was. let f = follows-kept opening s new pending step.tables was in record { shape = f.shape; refusals = f.refusals };
-  unkept = λ opening seats is fit.
+  accounts = λ opening seats is fit.
       let idle : notes_of seats seat ≡ None = ap (option_map (λ (x : Sent). x.note)) is in
-      subst (λ (n : Notes). LeavesUnkept opening s (notes_of seats) (after_leaving s new pending seat sent.note) n) (sym (notes-with seats seat (Some sent)))
-      (λ tell. (
+      subst (λ (n : Notes). KeepsAccounts opening s (notes_of seats) (after_leaving s new pending seat sent.note) n) (sym (notes-with seats seat (Some sent)))
+      (keeps-accounts opening s (after_leaving s new pending seat sent.note) (notes_of seats) (with_note (notes_of seats) seat (Some sent.note)) (λ tell. (
         (step.tells (notes_of seats) idle fit.notes).1 tell,
-        λ disk block none. (
-          none,
-          ap (λ (c : Option (List (List ℕ))). block_of c block)
-              (content-leaves s.memory.world.store.bays new.store.bays (notes_of seats) seat sent.note idle (noted opening seats fit) step.bays.0 step.bays.1 (home-below s.memory.world.store.bays sent.note.number sent.note.disk step.bays.0) disk),
-        ),
-      ));
+        accounts_rule.still opening (moment_of s (notes_of seats)) (moment_of (after_leaving s new pending seat sent.note) (with_note (notes_of seats) seat (Some sent.note))) [] (sym (append-nil s.history))
+            (λ disk block low. ap (λ (c : Option (List (List ℕ))). block_of c block)
+            (content-leaves s.memory.world.store.bays new.store.bays (notes_of seats) seat sent.note idle (noted opening seats fit) step.bays.0 step.bays.1 (home-below s.memory.world.store.bays sent.note.number sent.note.disk step.bays.0) disk))
+            (λ disk count at. (count, seen-leaves (λ (d : DiskSeen). d.faults) s.memory.world.store.bays new.store.bays (notes_of seats) seat sent.note idle (noted opening seats fit) step.bays.0 step.bays.1 disk ∙ at, omega arith))
+            (begins-no-more sent.note.writes (sent.note.name.object == 64)),
+      )));
 }
   where
     noted : (opening : Flat) (seats : Seats) → StateFits opening s seats → (k t : ℕ) → bay_at s.memory.world.store.bays k ≡ out t → IsSome (notes_of seats t)
     noted opening seats fit k t at = let b = fit.notes.stored.each_bay k t at in ap is_some b.1
+
+    begins-no-more : (writes slot : Bool) → TellsNoMore s.marks (cond (writes && not slot) (marks_begun s.marks seat sent.note.name.object sent.note.name.page (length s.history)) s.marks)
+    begins-no-more false slot = no-more s.marks
+    begins-no-more true true = no-more s.marks
+    begins-no-more true false = accounts_rule.begins s.marks seat sent.note.name.object sent.note.name.page (length s.history)
 
     pushes-left : (writes slot : Bool) → length (cond (writes && not slot) (marks_begun s.marks seat sent.note.name.object sent.note.name.page (length s.history)) s.marks).pushes ≡ length s.marks.pushes
     pushes-left false slot = refl
@@ -438,7 +454,8 @@ rule-ends s new cut pending seat sent f step tails comes = record {
       ∙ seen-returns disk_fixed s.memory.world.store.bays new.store.bays (notes_of seats) seat sent.note step.bays.1.0 noted (λ k at. one-disk opening seats fit noted k at) step.bays.0 step.bays.1.1 unchanged number;
   grown = no-entries s.history seat;
   follows = λ opening was. let f = follows-kept opening s new pending step.tables was in record { shape = f.shape; refusals = f.refusals };
-  unkept = λ opening seats is fit. unkept-end opening s new cut pending seat seats sent s.marks (pages-fit opening s seats fit) fit.marks f is step comes;
+  accounts = λ opening seats is fit. keeps-accounts opening s (after_return s new pending seat sent.note f) (notes_of seats) (notes_of (with_sent seats seat None))
+      (accounts-return opening s new cut pending seat seats sent f (pages-fit opening s seats fit) fit.marks is step comes fit.failures);
 }
   where
     home-inj : (x y : DiskSeen) → home x ≡ home y → x ≡ y

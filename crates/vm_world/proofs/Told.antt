@@ -1,8 +1,8 @@
 -- Events at rest and one after another, and what a seat is told of the state.
-use Rattle.std.proofs.Common.{◌≡◌, ℕ, zero, suc, ◌<◌, ◌==◌, Bool, true, false, cond, List, ◌++◌, length, Option, Some, None, replicate, refl, sym, ap, ◌∙◌, ◌⊎◌, inl, inr, append_assoc, subst}
+use Rattle.std.proofs.Common.{◌≡◌, ℕ, zero, suc, ◌<◌, ◌==◌, Bool, true, false, cond, List, [], ◌++◌, length, Option, Some, None, replicate, refl, sym, ap, ◌∙◌, ◌⊎◌, inl, inr, append_assoc, subst}
 use Rattle.std.specs.Prelude.{option_map, IsSome, IsSomeAnd, slice_set, slice_index_or}
 use Rattle.std.proofs.lemmas.Bool.Decides.{eqb_tells}
-use Rattle.std.proofs.lemmas.List.{get_or-set_same, get_or-set_other}
+use Rattle.std.proofs.lemmas.List.{append-nil, get_or-set_same, get_or-set_other}
 use Rattle.std.proofs.lemmas.List.Elements.{All-append}
 use Rattle.page_store.specs.core_arena.Bytes.{bytes_at}
 use Rattle.flat_model.specs.vm_types.declared.call.Call.{Call}
@@ -19,13 +19,13 @@ use Rattle.page_store.specs.declared.residence.Residence.TheVariants.{Moving}
 use Rattle.flat_model.specs.Flat.{Flat}
 use Rattle.flat_model.specs.OpenLaws.{last_entry, IsOpenPart}
 use Rattle.vm_world.specs.EventLaws.{EventLaw}
-use Rattle.vm_world.specs.Events.{IsEvent, IsSince, LeavesUnkept}
+use Rattle.vm_world.specs.Events.{IsEvent, IsSince, KeepsAccounts, moment_of}
 use Rattle.vm_world.specs.Opening.{no_seats}
 use Rattle.vm_world.specs.State.{KernelState, KeptPlan, Seats, Sent, notes_of, seat_of, seats_of, with_sent}
 use Rattle.vm_world.specs.StateFits.{StateFits}
 use Rattle.vm_world.specs.Wants.{HoldsUp, seat_in}
-use Rattle.vm_world.proofs.StateSteps.{no-entries, same-seats, this-seat, disk_there, disks-still, unkept-still}
-use Rattle.vm_world.proofs.Unkept.{unkept-then}
+use Rattle.vm_world.proofs.StateSteps.{no-entries, same-seats, this-seat, disk_there, disks-still, accounts-still}
+use Rattle.vm_world.proofs.BlockAccounts.{accounts-then, at-rest}
 
 -- a page that is moving has a frame whose lock the seat holds
 moving : (s : StoreSeen) (name : PageName) (seat : ℕ) → residence s name ≡ Moving seat → (frame : ℕ) × ((row_at s.rows frame).holder ≡ Some seat)
@@ -79,7 +79,7 @@ none-out (suc n) (suc k) = none-out n k
 
 -- WHAT EVENTS KEEP
 opens : (s : KernelState) → (F : Flat) × StateFits F s no_seats → IsSince s s no_seats
-opens s fits = record { starts = fits; fits = λ F fit. fit; fixed = refl; disks = λ number. refl; follows = λ F was. was; unkept = λ F fit tell. (tell, λ disk block none. (none, refl)) }
+opens s fits = record { starts = fits; fits = λ F fit. fit; fixed = refl; disks = λ number. refl; follows = λ F was. was; accounts = λ F fit. at-rest F s (notes_of no_seats) }
 
 since : (opening s t : KernelState) (seats : Seats) (seat : ℕ) (before after : Option Sent) → IsSince opening s seats → seats seat ≡ before → IsEvent seat s before t after → IsSince opening t (with_sent seats seat after)
 since opening s t seats seat before after was at event = record {
@@ -88,7 +88,7 @@ since opening s t seats seat before after was at event = record {
   fixed = event.fixed ∙ was.fixed;
   disks = λ number. event.disks was.starts.0 seats at (was.fits was.starts.0 was.starts.1) number ∙ was.disks number;
   follows = λ F has. event.follows F (was.follows F has);
-  unkept = λ F fit. unkept-then F opening s t (notes_of no_seats) (notes_of seats) (notes_of (with_sent seats seat after)) (was.unkept F fit) (event.unkept F seats at (was.fits F fit));
+  accounts = λ F fit tell. let late = event.accounts F seats at (was.fits F fit) tell in let early = was.accounts F fit late.0 in (early.0, late.1 (moment_of opening (notes_of no_seats)) early.1);
 }
 
 -- NOTHING CHANGES.
@@ -99,7 +99,7 @@ rests seat s sent = record {
   disks = λ opening seats is fit. disks-still s s seat sent refl seats is;
   grown = no-entries s.history seat;
   follows = λ opening was. record { shape = was.shape; refusals = was.refusals };
-  unkept = λ opening seats is fit. unkept-still opening s s seat sent refl seats is (λ tell. tell) (λ disk block none. none);
+  accounts = λ opening seats is fit. accounts-still opening s s seat sent [] (sym (append-nil s.history)) (λ disk block is. is) refl seats is (λ tell. tell);
 }
 
 -- a seat that has one thing outside and then another
@@ -124,8 +124,8 @@ event-then seat s t u before mid after a b = record {
     All-append (λ (e : Entry). seat_of e.process ≡ seat) a.grown.0 b.grown.0 a.grown.2 b.grown.2,
   );
   follows = λ opening was. b.follows opening (a.follows opening was);
-  unkept = λ opening seats is fit. unkept-then opening s t u (notes_of seats) (notes_of (with_sent seats seat mid)) (notes_of (with_sent seats seat after)) (a.unkept opening seats is fit)
-      (subst (λ (x : Seats). LeavesUnkept opening t (notes_of (with_sent seats seat mid)) u (notes_of x)) (sent-twice seats seat mid after) (b.unkept opening (with_sent seats seat mid) (this-seat seats seat mid) (a.fits opening seats is fit)));
+  accounts = λ opening seats is fit. accounts-then opening s t u (notes_of seats) (notes_of (with_sent seats seat mid)) (notes_of (with_sent seats seat after)) (a.accounts opening seats is fit)
+      (subst (λ (x : Seats). KeepsAccounts opening t (notes_of (with_sent seats seat mid)) u (notes_of x)) (sent-twice seats seat mid after) (b.accounts opening (with_sent seats seat mid) (this-seat seats seat mid) (a.fits opening seats is fit)));
 }
 
 -- A PLAN IS FORGOTTEN.
@@ -152,7 +152,7 @@ forgets-plan seat s sent = record {
   disks = λ opening seats is fit. disks-still s (record s { plan = None }) seat sent refl seats is;
   grown = no-entries s.history seat;
   follows = λ opening was. record { shape = was.shape; refusals = was.refusals };
-  unkept = λ opening seats is fit. unkept-still opening s (record s { plan = None }) seat sent refl seats is (λ tell. tell) (λ disk block none. none);
+  accounts = λ opening seats is fit. accounts-still opening s (record s { plan = None }) seat sent [] (sym (append-nil s.history)) (λ disk block is. is) refl seats is (λ tell. tell);
 }
 
 pub event_law : EventLaw

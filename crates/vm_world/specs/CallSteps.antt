@@ -15,6 +15,7 @@ use Rattle.flat_model.specs.Flat.{Flat, IsFlat}
 use Rattle.flat_model.specs.History.{IsStart, is_io}
 use Rattle.flat_model.specs.Shapes.{RespectsShape, SameShape}
 use Rattle.flat_model.specs.Step.{IsDue, after_act}
+use Rattle.vm_world.specs.declared.sync_start.SyncStart.{SyncStart}
 use Rattle.vm_world.specs.EntryLaws.{LocksAfter, StartsAfter, MayUseFile}
 use Rattle.vm_world.specs.Events.{IsEvent, CanTry}
 use Rattle.vm_world.specs.Failures.{with_entry_made}
@@ -111,7 +112,7 @@ abbrev pub IsCleanThen : Memory → Entry → Type 0
 IsCleanThen new e = (from : ℕ) (name : PageName) → e.reply ≡ Synced from → WantsClean new e.process e.call name → IsCleanPage new.world name
 
 -- The state with an entry made, and with these marks.
-abbrev pub with_entry_marked : KernelState → Entry → List (Option ℕ) → List (Option ℕ) → MarksSeen → KernelState
+abbrev pub with_entry_marked : KernelState → Entry → List (Option ℕ) → List (Option SyncStart) → MarksSeen → KernelState
 with_entry_marked s e calls syncs n = record (with_entry_made s e calls syncs) { marks = n }
 
 -- A call that is done on pages alone is done. One change after another is a change, where the first leaves flat memory well formed and the second respects
@@ -123,7 +124,7 @@ pub record CallRule : Type 0 where
   pub joined : (p : ℕ) (u v w : Memory) (first second : Flat → Flat)
       → ((born : set.FinSet nat_cmp) (notes : Notes) → NotesFit u.world notes → AllTell u.world notes → IsFlat (flat_memory u born notes) → IsFlat (first (flat_memory u born notes)))
       → RespectsShape second → ChangesMemory p u v first → ChangesMemory p v w second → ChangesMemory p u w (λ F. second (first F))
-  pub done : (s : KernelState) (new : Memory) (seat : ℕ) (e : Entry) (calls syncs : List (Option ℕ)) (n : MarksSeen) → ActsOnMemory s.memory new e
+  pub done : (s : KernelState) (new : Memory) (seat : ℕ) (e : Entry) (calls : List (Option ℕ)) (syncs : List (Option SyncStart)) (n : MarksSeen) → ActsOnMemory s.memory new e
       → MarksAfterReply s.memory new e.process e.call e.reply (length s.history) s.marks n → IsCleanThen new e
       → StaysAlive new e.process e.call → MayEnter s seat e
       → LocksAfter e s.calls calls → StartsAfter e s.syncs syncs → length syncs ≡ length s.syncs

@@ -29,6 +29,7 @@ use Rattle.vm_world.specs.Segments.{Segment, Spaces}
 use Rattle.vm_world.specs.State.{KernelState, Seats, notes_of, seats_of}
 use Rattle.vm_world.specs.StateFits.{StateFits}
 use Rattle.vm_world.specs.World.{file_name, slot_name}
+use Rattle.vm_world.specs.declared.sync_start.SyncStart.{SyncStart}
 
 -- Page 1 of a process is private, with a map of its own of this number.
 abbrev pub crowded_part : ℕ → Part Segment
@@ -131,6 +132,10 @@ crowded_marks = record {
   pushes = None ∷ Some (record { file = 1; page = 0; from = 0; whole = true }) ∷ None ∷ None ∷ [];
 }
 
+-- The Sync of process 2 is of its first page.
+abbrev pub crowded_start : SyncStart
+crowded_start = record { from = 1; addr = 0; length = 4096 }
+
 -- The tail of file 0 became zeros since; process 1's call of file 0 is between two parts; the Sync of process 2 began behind its birth; and a push of
 -- file 0's first page is planned for the clock, at seat 3.
 abbrev pub crowded_state : Page → KernelState
@@ -140,7 +145,7 @@ crowded_state page = record {
   history = crowded_history page;
   pending = 1;
   calls = Some 0 ∷ None ∷ [];
-  syncs = None ∷ Some 1 ∷ None ∷ None ∷ [];
+  syncs = None ∷ Some crowded_start ∷ None ∷ None ∷ [];
   plan = Some (record { seat = 3; plan = Push (file_name 0 0); of = None });
   parents = 0 ∷ 1 ∷ [];
   entries = 9 ∷ 9 ∷ [];

@@ -19,6 +19,7 @@ use Rattle.flat_model.specs.OpenLaws.{MayFollow, IsOpenPart}
 use Rattle.flat_model.specs.Step.{is_bit_set, tails_cleared, after_act, IsDue, IsUnborn}
 use Rattle.flat_model.specs.SyncLaws.{is_in_life}
 use Rattle.flat_model.specs.Told.{entries_of}
+use Rattle.vm_world.specs.declared.sync_start.SyncStart.{SyncStart}
 use Rattle.vm_world.specs.DiskPlaces.{HasCounted}
 use Rattle.vm_world.specs.HistoryFits.{HistoryFits, FaultsFit, CallsFit, RoomsFit, BirthsFit, has_left}
 use Rattle.vm_world.specs.Segments.{Spaces}
@@ -29,8 +30,8 @@ abbrev pub LocksAfter : Entry → List (Option ℕ) → List (Option ℕ) → Ty
 LocksAfter e old new = (f seat : ℕ) → (slice_index_or new f None ≡ Some seat) ↔ MatchBool (e.process == suc seat) (IsOpenPart f e) (slice_index_or old f None ≡ Some seat)
 
 -- The starts of Syncs after an entry: that of its process is dropped, and that of a process that it makes.
-abbrev pub StartsAfter : Entry → List (Option ℕ) → List (Option ℕ) → Type 0
-StartsAfter e old new = (seat b : ℕ) → slice_index_or new seat None ≡ Some b → IsFalse (is_in_life (suc seat) e) × (slice_index_or old seat None ≡ Some b)
+abbrev pub StartsAfter : Entry → List (Option SyncStart) → List (Option SyncStart) → Type 0
+StartsAfter e old new = (seat : ℕ) (b : SyncStart) → slice_index_or new seat None ≡ Some b → IsFalse (is_in_life (suc seat) e) × (slice_index_or old seat None ≡ Some b)
 
 -- An entry of a seat's process goes with the lock of its file: where a seat has the lock, it is the process's own, and the call a part; or it is another's,
 -- and the call met a device error.
@@ -50,9 +51,9 @@ pub record EntryLaw : Type 0 where
   pub faults : (H : List Entry) (bays : List BaySeen) (notes : Notes) (e : Entry) → FaultsFit H bays notes → IsNextCount H e
       → ((disk before after : ℕ) → e.reply ≡ Io disk before after → HasCounted bays notes disk after)
       → FaultsFit (H ++ e ∷ []) bays notes
-  pub calls : (H : List Entry) (calls syncs calls' syncs' : List (Option ℕ)) (e : Entry) → CallsFit H calls syncs → MayFollow H e → LocksAfter e calls calls' → StartsAfter e syncs syncs'
+  pub calls : (H : List Entry) (calls : List (Option ℕ)) (syncs : List (Option SyncStart)) (calls' : List (Option ℕ)) (syncs' : List (Option SyncStart)) (e : Entry) → CallsFit H calls syncs → MayFollow H e → LocksAfter e calls calls' → StartsAfter e syncs syncs'
       → CallsFit (H ++ e ∷ []) calls' syncs'
-  pub part : (H : List Entry) (calls syncs : List (Option ℕ)) (parents entries : List ℕ) (e : Entry) (seat : ℕ) → CallsFit H calls syncs → RoomsFit H parents entries → KeepsParts H → e.process ≡ suc seat → MayUseFile e seat calls
+  pub part : (H : List Entry) (calls : List (Option ℕ)) (syncs : List (Option SyncStart)) (parents entries : List ℕ) (e : Entry) (seat : ℕ) → CallsFit H calls syncs → RoomsFit H parents entries → KeepsParts H → e.process ≡ suc seat → MayUseFile e seat calls
       → IsNextPart H e
   pub rooms : (H : List Entry) (parents entries : List ℕ) (e : Entry) → RoomsFit H parents entries → length (entries_of H e.process) < room_of entries e.process
       → ((child : ℕ) → e.call ≡ Fork child → process_parent parents child ≡ Some e.process) → RoomsFit (H ++ e ∷ []) parents entries

@@ -19,6 +19,7 @@ use Rattle.flat_model.specs.Processes.{with_child}
 use Rattle.flat_model.specs.Shapes.{SameShape}
 use Rattle.flat_model.specs.Step.{IsDue, after_act}
 use Rattle.page_store.specs.Notes.{Notes}
+use Rattle.vm_world.specs.declared.sync_start.SyncStart.{SyncStart}
 use Rattle.vm_world.specs.CallSteps.{ActsOnMemory, KeepsMachine, StaysAlive}
 use Rattle.vm_world.specs.CountsFit.{is_number, slots_for_part}
 use Rattle.vm_world.specs.EntryLaws.{LocksAfter, StartsAfter}
@@ -143,11 +144,11 @@ pub record ForkRule : Type 0 where
   pub forked : (m n : Memory) (p child : ℕ) (parent : List (Part Segment)) (end : ℕ) → MemoryFits m → finite.get m.spaces p ≡ Some parent → finite.get m.spaces child ≡ None
       → ((q : ℕ) → end ≤ q → part_at parent q ≡ None) → IsSome (finite.get n.spaces child) → ChangesSegments child (with_empty_process m child) n (λ F. with_cells_copied F p child 0 end)
       → BearsProcess child m n (λ F. with_child F p child)
-  pub done : (s : KernelState) (new : Memory) (seat child : ℕ) (e : Entry) (calls syncs : List (Option ℕ)) → MayFork s seat child e → e.reply ≡ Done
+  pub done : (s : KernelState) (new : Memory) (seat child : ℕ) (e : Entry) (calls : List (Option ℕ)) (syncs : List (Option SyncStart)) → MayFork s seat child e → e.reply ≡ Done
       → BringsProcess child s.memory new (λ F. after_act F e) (λ F G. IsDue F e × (G ≡ after_act F e))
       → LocksAfter e s.calls calls → StartsAfter e s.syncs syncs → length syncs ≡ length s.syncs
       → IsEvent seat s None (with_entry_made (record s { memory = new; born = set.insert s.born child }) e calls syncs) None
-  pub refused : (s : KernelState) (new : Memory) (seat child : ℕ) (e : Entry) (errno : Errno) (calls syncs : List (Option ℕ)) → MayFork s seat child e → e.reply ≡ Refused errno
+  pub refused : (s : KernelState) (new : Memory) (seat child : ℕ) (e : Entry) (errno : Errno) (calls : List (Option ℕ)) (syncs : List (Option SyncStart)) → MayFork s seat child e → e.reply ≡ Refused errno
       → ActsOnMemory s.memory new e → StaysAlive new e.process e.call
       → LocksAfter e s.calls calls → StartsAfter e s.syncs syncs → length syncs ≡ length s.syncs
       → IsEvent seat s None (with_entry_made (record s { memory = new }) e calls syncs) None

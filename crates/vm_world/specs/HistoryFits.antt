@@ -17,6 +17,7 @@ use Rattle.flat_model.specs.Births.{is_birth}
 use Rattle.flat_model.specs.Counted.{Counted, top_count}
 use Rattle.flat_model.specs.OpenLaws.{last_entry, IsOpenPart, EndsCalls}
 use Rattle.flat_model.specs.Told.{entries_of}
+use Rattle.vm_world.specs.declared.sync_start.SyncStart.{SyncStart}
 use Rattle.vm_world.specs.DiskPlaces.{HasCounted, faults_in}
 use Rattle.vm_world.specs.Segments.{Spaces}
 use Rattle.vm_world.specs.State.{process_parent, room_of, is_top}
@@ -43,10 +44,10 @@ pub record FaultsFit (H : List Entry) (bays : List BaySeen) (notes : Notes) : Ty
 
 -- Each process does each call to its end; a file's call is a seat's exactly where the last entry of the seat's process is a part of the file that
 -- doesn't end its call; and where a seat's Sync began is behind all that its process did.
-pub record CallsFit (H : List Entry) (calls syncs : List (Option ℕ)) : Type 0 where
+pub record CallsFit (H : List Entry) (calls : List (Option ℕ)) (syncs : List (Option SyncStart)) : Type 0 where
   pub ends : EndsCalls H
   pub files : (f seat : ℕ) → (slice_index_or calls f None ≡ Some seat) ↔ IsSomeAnd (last_entry (suc seat) H) (IsOpenPart f)
-  pub starts : (seat b : ℕ) → slice_index_or syncs seat None ≡ Some b → IsStart H (length H) (suc seat) b
+  pub starts : (seat : ℕ) (b : SyncStart) → slice_index_or syncs seat None ≡ Some b → IsStart H (length H) (suc seat) b.from
 
 -- No process has more entries than the set-up gave it, and each Fork of a child is its parent's.
 pub record RoomsFit (H : List Entry) (parents entries : List ℕ) : Type 0 where

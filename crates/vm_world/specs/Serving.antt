@@ -3,11 +3,12 @@ use Rattle.std.specs.Prelude.{◌≡◌, ◌≢◌, ◌⊎◌, ◌<◌, ◌+◌,
 use Rattle.anon_slots.specs.Slots.{AnonSlotsSeen}
 use Rattle.page_store.specs.page_hash.Names.{name_at}
 use Rattle.page_store.specs.page_hash.declared.PageName.{PageName}
-use Rattle.page_store.specs.Seen.{residence, IsListedFrame}
+use Rattle.page_store.specs.Seen.{StoreSeen, residence, IsListedFrame}
 use Rattle.page_store.specs.declared.plan.Hold.{Hold}
 use Rattle.page_store.specs.declared.plan.Hold.TheVariants as hold
 use Rattle.page_store.specs.declared.plan.Plan.{Plan}
 use Rattle.page_store.specs.declared.residence.Residence.TheVariants.{Home}
+use Rattle.hat_layer.specs.declared.translation.Translation.{Translation}
 use Rattle.flat_model.specs.vm_types.declared.call.Call.{Call}
 use Rattle.flat_model.specs.vm_types.declared.call.Call.TheVariants.{Load, Store, Write, Truncate}
 use Rattle.flat_model.specs.vm_types.declared.call.Reply.{Reply}
@@ -20,7 +21,7 @@ use Rattle.vm_world.specs.FlatMemory.{Memory}
 use Rattle.vm_world.specs.Plans.{CanRunPlan, MayMeetFault, IsRefusal, refusal_in}
 use Rattle.vm_world.specs.Segments.{Spot, spot_at, shown_name}
 use Rattle.vm_world.specs.StateSteps.{PendsTails}
-use Rattle.vm_world.specs.TranslationsFit.{IsModified}
+use Rattle.vm_world.specs.TranslationsFit.{IsModified, IsRewritten}
 use Rattle.vm_world.specs.Wants.{WantsHome, WantsClean, IsGapPage, IsCutPage, HoldsUp, IsCleanPage}
 use Rattle.vm_world.specs.World.{World, file_name, page_exists, slot_name}
 use Rattle.vm_world.specs.WorldSteps.{stays, WorldStep}
@@ -57,15 +58,29 @@ abbrev pub IsWanted : Memory → List (Option ℕ) → ℕ → Call → Wants �
 IsWanted m calls p call (Transfer plan) = CanRunPlan m (Some (p, call)) plan
 IsWanted m calls p call (Seat h) = HoldsUp m calls p call h
 
--- No page is modified that wasn't.
-abbrev pub ModifiesNone : World → World → Type 0
-ModifiesNone old new = (name : PageName) (frame : ℕ) → residence new.store name ≡ Home frame → IsModified new.store new.hat.places frame
-    → (residence old.store name ≡ Home frame) × IsModified old.store old.hat.places frame
+-- What may be said of the page in a frame: that it is modified, or that it counts as rewritten.
+abbrev pub PageBit : Type 1
+PageBit = StoreSeen → List (Option Translation) → ℕ → Type 0
 
--- Each page that is modified was so before, in its frame, but for pages of which this holds.
-abbrev pub ModifiesOnly : (PageName → Type 0) → World → World → Type 0
-ModifiesOnly may old new = (name : PageName) (frame : ℕ) → residence new.store name ≡ Home frame → IsModified new.store new.hat.places frame
-    → may name ⊎ ((residence old.store name ≡ Home frame) × IsModified old.store old.hat.places frame)
+-- Each home page of which this is said was home before, in its frame, and it was said of it.
+abbrev pub SaysNone : PageBit → World → World → Type 0
+SaysNone bit old new = (name : PageName) (frame : ℕ) → residence new.store name ≡ Home frame → bit new.store new.hat.places frame
+    → (residence old.store name ≡ Home frame) × bit old.store old.hat.places frame
+
+-- The same, but for pages that may.
+abbrev pub SaysOnly : PageBit → (PageName → Type 0) → World → World → Type 0
+SaysOnly bit may old new = (name : PageName) (frame : ℕ) → residence new.store name ≡ Home frame → bit new.store new.hat.places frame
+    → may name ⊎ ((residence old.store name ≡ Home frame) × bit old.store old.hat.places frame)
+
+-- No page is modified that wasn't, and none counts as rewritten since its snapshot that didn't: one that is on its way to its disk isn't pushed again.
+pub record ModifiesNone (old new : World) : Type 0 where
+  pub modified : SaysNone IsModified old new
+  pub rewritten : SaysNone IsRewritten old new
+
+-- Each page that is modified was so before, in its frame, and each that counts as rewritten did, but for pages of which this holds.
+pub record ModifiesOnly (may : PageName → Type 0) (old new : World) : Type 0 where
+  pub modified : SaysOnly IsModified may old new
+  pub rewritten : SaysOnly IsRewritten may old new
 
 -- The page of a slot that was never pushed: wherever it is home, it is modified.
 abbrev pub IsUnpushedSlot : AnonSlotsSeen → PageName → Type 0
@@ -75,7 +90,7 @@ IsUnpushedSlot anon name = (slot : ℕ) × (name ≡ slot_name slot) × (slice_i
 abbrev pub ShowsThere : Memory → ℕ → ℕ → PageName → Type 0
 ShowsThere m p q name = (x : Spot) × (spot_at m.spaces p q ≡ Some x) × (shown_name m.world.maps x ≡ Some name)
 
--- WHICH PAGES A CALL MAKES MODIFIED, if it makes any, once it is done with this reply: a store the one that its place shows then, and a load that one only
+-- WHICH PAGES A CALL MAKES MODIFIED, or count as rewritten, if any, once it is done with this reply: a store the one that its place shows then, and a load that one only
 -- where it is the page of a slot that was never pushed; a part of a write the page that gets its bytes, and where it made the file longer the old last one; and
 -- a Truncate the old last page or the new one. No other call makes one.
 abbrev pub MayModify : Memory → Memory → ℕ → Call → Reply → PageName → Type 0
@@ -86,8 +101,8 @@ MayModify old new p (Truncate file end) Done name = IsGapPage old.world file end
 MayModify old new p call reply name = ⊥
 
 -- The call is done with this reply, whatever tails its entry takes: frames may be taken for other pages, and then it acts. The signal or errno of the reply,
--- or that it has none, is what was due. No page is modified that wasn't, but one that the call may make so. Where a Sync is answered, each page that it wants
--- clean is.
+-- or that it has none, is what was due. No page is modified that wasn't, and none counts as rewritten that didn't, but one that the call may make so. Where a
+-- Sync is answered, each page that it wants clean is.
 pub record ServesDone (old new : Memory) (pending more p : ℕ) (call : Call) (reply : Reply) : Type 0 where
   pub mid : World
   pub first : TakesFrames old mid pending more

@@ -11,6 +11,7 @@ use Rattle.page_store.specs.declared.plan.Hold.TheVariants as hold
 use Rattle.page_store.specs.declared.plan.Plan.{Plan}
 use Rattle.flat_model.specs.Flat.{Flat}
 use Rattle.flat_model.specs.History.{IsStart, is_io}
+use Rattle.vm_world.specs.declared.sync_start.SyncStart.{SyncStart}
 use Rattle.vm_world.specs.CallSteps.{StaysAlive, MarksAfterReply, with_entry_marked}
 use Rattle.vm_world.specs.EntryLaws.{LocksAfter, StartsAfter, MayUseFile}
 use Rattle.vm_world.specs.Events.{IsEvent, CanTry}
@@ -50,7 +51,7 @@ after_need s new pending seat p call plan = record s { memory = new; pending = p
 -- then, and its process is alive unless that was an Exit; where it needs a transfer, with the plan that is kept; and where it has to wait. What it waits
 -- for is another seat's, where the state fits.
 pub record ServingLaw : Type 0 where
-  pub done : (s : KernelState) (new : Memory) (seat p more : ℕ) (call : Call) (reply : Reply) (calls syncs : List (Option ℕ)) (n : MarksSeen) → CanTry s seat p call
+  pub done : (s : KernelState) (new : Memory) (seat p more : ℕ) (call : Call) (reply : Reply) (calls : List (Option ℕ)) (syncs : List (Option SyncStart)) (n : MarksSeen) → CanTry s seat p call
       → ServesDone s.memory new s.pending more p call reply → StaysAlive new p call → MayAnswer s seat p call reply
       → LocksAfter (done_entry p call reply more) s.calls calls → StartsAfter (done_entry p call reply more) s.syncs syncs → length syncs ≡ length s.syncs
       → MarksAfterReply s.memory new p call reply (length s.history) s.marks n

@@ -12,6 +12,7 @@ use Rattle.flat_model.specs.vnode_files.Vnode.{VnodeSeen}
 use Rattle.mark_laws.specs.disk_marks.Marks.{MarksSeen}
 use Rattle.vm_world.specs.FlatMemory.{Memory}
 use Rattle.vm_world.specs.World.{StoreCore, core_of}
+use Rattle.vm_world.specs.declared.sync_start.SyncStart.{SyncStart}
 
 -- A process and its call.
 abbrev pub Caller : Type 0
@@ -45,7 +46,7 @@ pub record KeptPlan : Type 0 where
   pub of : Option Caller
 
 -- The state: memory; who was ever alive; the history; the tails that became zeros since the last entry, as bits; for each file the seat whose call is
--- between two parts; for each seat where its Sync began; the last plan; by the set-up each process's parent, or 0, and its most entries; and what is known of
+-- between two parts; for each seat where its Sync began, and of which range; the last plan; by the set-up each process's parent, or 0, and its most entries; and what is known of
 -- the blocks of files' disks.
 pub record KernelState : Type 0 where
   pub memory : Memory
@@ -53,7 +54,7 @@ pub record KernelState : Type 0 where
   pub history : List Entry
   pub pending : ℕ
   pub calls : List (Option ℕ)
-  pub syncs : List (Option ℕ)
+  pub syncs : List (Option SyncStart)
   pub plan : Option KeptPlan
   pub parents : List ℕ
   pub entries : List ℕ

@@ -54,6 +54,10 @@ pub record HasWritten (places : List (Option Translation)) (frame : ℕ) : Type 
 abbrev pub IsModified : StoreSeen → List (Option Translation) → ℕ → Type 0
 IsModified store places frame = ((row_at store.rows frame).modified ≡ true) ⊎ HasWritten places frame
 
+-- The page in a frame counts as rewritten since a snapshot of it went out: its row says so, or one of its translations.
+abbrev pub IsRewritten : StoreSeen → List (Option Translation) → ℕ → Type 0
+IsRewritten store places frame = ((row_at store.rows frame).rewritten ≡ true) ⊎ HasWritten places frame
+
 -- The page of a slot that was never pushed is modified where it is home.
 abbrev pub UnpushedFit : StoreSeen → AnonSlotsSeen → List (Option Translation) → Type 0
 UnpushedFit store anon places =

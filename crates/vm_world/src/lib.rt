@@ -3,6 +3,7 @@
 
 mod laws;
 mod segment;
+mod sync_start;
 mod wants;
 mod world;
 
@@ -21,6 +22,7 @@ pub use laws::{
     state_failures_law, state_law, state_marks_law, state_raise_law, state_sync_law,
 };
 pub use segment::Segment;
+pub use sync_start::SyncStart;
 pub use wants::Wants;
 pub use world::World;
 pub use zero_objects::ZeroObjects;

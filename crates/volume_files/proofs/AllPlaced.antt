@@ -24,7 +24,7 @@ use Rattle.vm_report.specs.vm_script.PlanSeen.{PlanSeen}
 use Rattle.vm_report.specs.vm_script.Rules.{broken_rule, amounts_of}
 use Rattle.vm_report.specs.vm_script.Sound.{IsSoundSetup}
 use Rattle.volume_files.specs.declared.stops.Refusal.TheVariants as refusal
-use Rattle.volume_files.specs.Attached.{AreMounted, ArePlaced, HasItsBytes, bare_disks}
+use Rattle.volume_files.specs.Attached.{AreFilledBy, AreMounted, ArePlaced, HasItsBytes, IsFilledBy, bare_disks}
 use Rattle.stored_files.specs.Written.{numbered_seen}
 use Rattle.stored_files.specs.Closed.{StoreFiles, info_at}
 use Rattle.volume_files.specs.Handed.{HandsAll, IsSwapAsGiven, IsSwapFor, SpareBlock}
@@ -41,7 +41,8 @@ use Rattle.volume_files.proofs.LawLemmas.{GoodFiles, LineLaw, good-kept, line-la
 use Rattle.volume_files.proofs.LineLemmas.{Stored, StoredBehind, stored_kept, lines_keep, err-ok, HoldsItsBytes}
 use Rattle.volume_files.proofs.MountedLaws.{differ-at, all_then, all_of, all_mapped}
 use Rattle.std.proofs.Math.Seq.{drop-append_seam}
-use Rattle.volume_files.proofs.SparedBlocks.{each-written}
+use Rattle.volume_files.proofs.FilledBlocks.{wrote-filled}
+use Rattle.volume_files.proofs.SparedBlocks.{each-mounted, each-written}
 use Rattle.volume_files.proofs.ToldDisks.{opened-told, told-before}
 use Rattle.volume_files.proofs.PlacedLemmas.{IsSized, all_sized, line_files-are, mounted-volumes, numbers-seen, sizes-seen, at_index}
 
@@ -281,6 +282,8 @@ placed-all {D} seen plan holds old new ts swap files has kept sound m serves bla
             (subst (λ (fs : List OpenedFile). KeepThere seen (SpareBlock fs) old new) (sym (ap (drop (length found)) are ∙ drop-append_seam found lines)) p.keep);
         last = blank;
       };
+      filled = subst (λ (fs : List OpenedFile). AreFilledBy plan holds fs (bare_disks es)) (sym (ap (drop (length found)) are ∙ drop-append_seam found lines))
+          (each-mounted seen (IsFilledBy lines) holds specs old new ts m (wrote-filled seen lines old new p.wrote));
       told = λ told. opened-told seen plan holds old ts (Ok after) blocks m p.read (told-before seen old new same told);
       stored = all-stored seen sizes old new ts plan.setup lines after distinct has counts (holding-lines plan.setup (placeable-lines plan kept sound)) remain read are p.wrote;
     }

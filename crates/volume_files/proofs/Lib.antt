@@ -9,6 +9,7 @@ pub mod MountLemmas
 pub mod MountedLaws
 pub mod WriteLemmas
 pub mod SparedBlocks
+pub mod FilledBlocks
 pub mod FileLineLemmas
 pub mod OpenLemmas
 pub mod PlacedLemmas

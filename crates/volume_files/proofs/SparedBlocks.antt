@@ -134,26 +134,34 @@ module _ {D : Type 0} (seen : D → DiskSeen) where
         | inr le ↦ inr (omega (arith, le))
       ]
 
-  -- the blocks of disks that were attached, by the specs
-  pub each-written : (spared : ℕ → ℕ → Type 0) (holds : Spec → Option (List (List ℕ))) (specs : List VolumeSpec) (ds es : List (NumberedDisk D)) (ts : List TableSeen)
-      → AreMounted holds specs (map (numbered_seen seen) ds) ts → KeepThere seen spared ds es
+  -- what became of disks that were attached, by the specs
+  pub each-mounted : (R : ℕ → DiskSeen → DiskSeen → Type 0) (holds : Spec → Option (List (List ℕ))) (specs : List VolumeSpec) (ds es : List (NumberedDisk D)) (ts : List TableSeen)
+      → AreMounted holds specs (map (numbered_seen seen) ds) ts
+      → ((i : ℕ) (x : NumberedDisk D) → i < length ds → R (slice_index_or ds i x).number (seen (slice_index_or ds i x).disk) (seen (slice_index_or es i x).disk))
       → (i : ℕ) (s : VolumeSpec) (d : DiskSeen) → slice_get specs i ≡ Some s → slice_get (bare_disks (map (numbered_seen seen) es)) i ≡ Some d
-      → (was : DiskSeen) × IsVolumeAttached holds s was × ((block : ℕ) → spared (volume_number s) block → block_told d.content block ≡ block_told was.content block)
-  each-written spared holds [] ds es ts m keep i s d si di = absurd (nothing s si)
+      → (was : DiskSeen) × IsVolumeAttached holds s was × R (volume_number s) was d
+  each-mounted R holds [] ds es ts m each i s d si di = absurd (nothing s si)
     where
       nothing : (s : VolumeSpec) → ◌≡◌ {A = Option VolumeSpec} None (Some s) → ⊥
       nothing s is = absurd (cc is)
-  each-written spared holds (q ∷ specs) [] es ts m keep i s d si di = absurd m
-  each-written spared holds (q ∷ specs) (x ∷ ds) es [] m keep i s d si di = absurd m
-  each-written spared holds (q ∷ specs) (x ∷ ds) [] (t ∷ ts) m keep i s d si di = absurd (cc di)
-  each-written spared holds (q ∷ specs) (x ∷ ds) (y ∷ es) (t ∷ ts) m keep zero s d si di =
+  each-mounted R holds (q ∷ specs) [] es ts m each i s d si di = absurd m
+  each-mounted R holds (q ∷ specs) (x ∷ ds) es [] m each i s d si di = absurd m
+  each-mounted R holds (q ∷ specs) (x ∷ ds) [] (t ∷ ts) m each i s d si di = absurd (cc di)
+  each-mounted R holds (q ∷ specs) (x ∷ ds) (y ∷ es) (t ∷ ts) m each zero s d si di =
       let same : q ≡ s = cc si in
       let now : seen y.disk ≡ d = cc di in (
         seen x.disk,
         subst (λ (z : VolumeSpec). IsVolumeAttached holds z (seen x.disk)) same m.0.attached,
-        λ block free.
-            ap (λ (z : DiskSeen). block_told z.content block) (sym now)
-            ∙ keep 0 x (omega arith) block (subst (λ (n : ℕ). spared n block) (sym (m.0.number ∙ ap volume_number same)) free),
+        subst (λ (z : DiskSeen). R (volume_number s) (seen x.disk) z) now
+            (subst (λ (n : ℕ). R n (seen x.disk) (seen y.disk)) (m.0.number ∙ ap volume_number same) (each 0 x (omega arith))),
       )
-  each-written spared holds (q ∷ specs) (x ∷ ds) (y ∷ es) (t ∷ ts) m keep (suc i) s d si di =
-      each-written spared holds specs ds es ts m.1 (λ j e inside. keep (suc j) e (omega (arith, inside))) i s d si di
+  each-mounted R holds (q ∷ specs) (x ∷ ds) (y ∷ es) (t ∷ ts) m each (suc i) s d si di =
+      each-mounted R holds specs ds es ts m.1 (λ j e inside. each (suc j) e (omega (arith, inside))) i s d si di
+
+  -- their blocks
+  pub each-written : (spared : ℕ → ℕ → Type 0) (holds : Spec → Option (List (List ℕ))) (specs : List VolumeSpec) (ds es : List (NumberedDisk D)) (ts : List TableSeen)
+      → AreMounted holds specs (map (numbered_seen seen) ds) ts → KeepThere seen spared ds es
+      → (i : ℕ) (s : VolumeSpec) (d : DiskSeen) → slice_get specs i ≡ Some s → slice_get (bare_disks (map (numbered_seen seen) es)) i ≡ Some d
+      → (was : DiskSeen) × IsVolumeAttached holds s was × ((block : ℕ) → spared (volume_number s) block → block_told d.content block ≡ block_told was.content block)
+  each-written spared holds specs ds es ts m keep =
+      each-mounted (λ n was now. (block : ℕ) → spared n block → block_told now.content block ≡ block_told was.content block) holds specs ds es ts m keep

@@ -1,5 +1,5 @@
 -- Disks that are attached, and files that are placed on them, before the processes run. Inside: no clause of `run` cites this.
-use Rattle.std.specs.Prelude.{ℕ, ◌≡◌, ◌<◌, ◌≤◌, ◌⊎◌, List, [], ◌∷◌, length, map, All, Ok, Some, IfSome, IsSome, Option, option_map, slice_get, vec_capacity}
+use Rattle.std.specs.Prelude.{ℕ, ◌≡◌, ◌<◌, ◌≤◌, ◌⊎◌, ◌+◌, List, [], ◌∷◌, length, map, All, Ok, Some, IfSome, IsSome, Option, is_some, option_map, slice_get, slice_index_or, vec_capacity}
 use Rattle.std.specs.FinMap as finite
 use Rattle.block_device.specs.DiskSeen.{DiskSeen}
 use Rattle.block_device.specs.OpenSeen.{OpenFaultSeen}
@@ -10,7 +10,8 @@ use Rattle.volume_format.specs.vnode_files.declared.vnode.FileInfo.{FileInfo}
 use Rattle.volume_format.specs.vnode_files.Files.{FilesSeen}
 use Rattle.volume_format.specs.vnode_files.Grow.{page_count}
 use Rattle.volume_format.specs.vnode_files.Vnode.{fresh_vnode}
-use Rattle.volume_format.specs.Table.{TableSeen}
+use Rattle.vm_report.specs.flat_model.Words.{pages_in}
+use Rattle.volume_format.specs.Table.{TableSeen, front_block}
 use Rattle.volume_format.specs.Volume.{IsVolumeTable}
 use Rattle.vm_report.specs.vm_script.PlanSeen.{PlanSeen}
 use Rattle.vm_report.specs.vm_script.Rules.{amounts_of}
@@ -19,7 +20,8 @@ use Rattle.volume_files.specs.declared.stops.OpenStop.{OpenStop}
 use Rattle.volume_files.specs.declared.stops.OpenStop.TheVariants as halt
 use Rattle.volume_files.specs.declared.stops.HandedBack.{HandedBack}
 use Rattle.stored_files.specs.Closed.{StoreFiles, info_at}
-use Rattle.volume_files.specs.Handed.{AreWrittenAt, HaveTold, HandsFront, HandsAll, HasDiskCause, HasOpeningCause}
+use Rattle.volume_files.specs.Handed.{AreWrittenAt, HaveTold, HandsFront, HandsAll, HasDiskCause, HasOpeningCause, block_told}
+use Rattle.volume_files.specs.Placing.{filled_pages}
 use Rattle.volume_files.specs.Handed.{HasRefusalCause, IsSwapAsGiven, IsSwapFor, StopsAttaching, volume_numbers, sizes_of}
 use Rattle.stored_files.specs.Written.{HaveDisks, HaveFirstBlocks, HaveVolumeNames, LieWell, numbered_seen}
 use Rattle.volume_files.specs.Opened.{ComesTo, IsVolumeAttached, OpenedFile, volume_number, line_files_of, opened_files, infos_of, opened_bytes_at, table_on, volume_specs}
@@ -98,6 +100,28 @@ pub record HasItsBytes (f : OpenedFile) : Type 0 where
 abbrev pub FileDisksTell : List FileInfo → List (ℕ × DiskSeen) → Type 0
 FileDisksTell infos disks = (i k : ℕ) (disk : ℕ × DiskSeen) → slice_get disks i ≡ Some disk → k < length infos → (info_at infos k).disk ≡ disk.0 → IsSome disk.1.content
 
+-- A block of the disk of this number has a page that the bytes of one of these files fill: the last one of a file with zeros behind them.
+pub record HasFilledPage (files : List OpenedFile) (number : ℕ) (content : Option (List (List ℕ))) (block : ℕ) : Type 0 where
+  pub k : ℕ
+  pub file : OpenedFile
+  pub there : slice_get files k ≡ Some file
+  pub on_disk : file.info.disk ≡ number
+  pub page : ℕ
+  pub within : page < pages_in (length file.bytes)
+  pub in_block : block ≡ front_block file.info.extents + page
+  pub has : block_told content block ≡ Some (slice_index_or (filled_pages file.bytes) page [])
+
+-- A disk tells where it told; and each of its blocks is as it was, or has such a page.
+pub record IsFilledBy (files : List OpenedFile) (number : ℕ) (was now : DiskSeen) : Type 0 where
+  pub tells : is_some now.content ≡ is_some was.content
+  pub each : (block : ℕ) → (block_told now.content block ≡ block_told was.content block) ⊎ HasFilledPage files number now.content block
+
+-- So is each of these disks, from what the rack gave.
+abbrev pub AreFilledBy : PlanSeen → (Spec → Option (List (List ℕ))) → List OpenedFile → List DiskSeen → Type 0
+AreFilledBy plan holds files disks =
+    (i : ℕ) (s : VolumeSpec) (d : DiskSeen) → slice_get (volume_specs plan) i ≡ Some s → slice_get disks i ≡ Some d
+    → (was : DiskSeen) × IsVolumeAttached holds s was × IsFilledBy files (volume_number s) was d
+
 -- ALL FILES ARE PLACED: their records, on disks that are there; where the disks tell, as the set-up rules say; and each disk that tells has their bytes.
 pub record ArePlaced (plan : PlanSeen) (holds : Spec → Option (List (List ℕ))) (files : List OpenedFile) (a : AttachedSeen) (made : FilesSeen) : Type 0 where
   pub numbers : map (λ (d : ℕ × DiskSeen). d.0) a.disks ≡ volume_numbers plan
@@ -112,5 +136,6 @@ pub record ArePlaced (plan : PlanSeen) (holds : Spec → Option (List (List ℕ)
   pub kept : All (λ f. 1 ≤ page_count f.info.extents) files
   pub given : ComesTo plan holds (map (λ (d : ℕ × DiskSeen). (d.0, d.1.size)) a.disks) (Ok files)
   pub written : AreWrittenAt plan holds (line_files_of given.found files) (bare_disks a.disks) a.swap
+  pub filled : AreFilledBy plan holds (line_files_of given.found files) (bare_disks a.disks)
   pub told : All (λ (d : DiskSeen). IsSome d.content) (bare_disks a.disks) → opened_files plan holds ≡ Ok files
   pub stored : StoreFiles a.disks (infos_of files) (opened_bytes_at files)

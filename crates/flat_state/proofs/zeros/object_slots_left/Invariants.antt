@@ -8,4 +8,4 @@ abbrev pub invariant-loop-pages : goal.invariant-loop-pages
 invariant-loop-pages l =
     (goal.iterator-loop-pages).can_next l.pages-iterator ×
     (goal.iterator-loop-pages).is_finite l.pages-iterator ×
-    (slots_left l.left (sum_by (λ v. length v.items) l.pages-iterator) ≡ slots_left l.slots (sum_by (λ v. length v.items) (values l.zeros)))
+    (slots_left l.left (sum_by length l.pages-iterator) ≡ slots_left l.slots (sum_by length (values l.zeros)))

@@ -2,7 +2,7 @@ use Rattle.std.proofs.Common.{ℕ, Option, refl, option_map, Bor}
 use Rattle.volume_files.specs.vm_types.declared.call.Call.{Call}
 use Rattle.vm_core.specs.Flights.{IsBack}
 use Rattle.vm_core.specs.vm_world.State.{Caller}
-use Rattle.plan_runs.specs.Transfers.{sent_along}
+use Rattle.vm_core.specs.SeatSteps.{sent_along}
 use Rattle.plan_runs.proofs.making.bring_home.Given.{Over}
 use Rattle.plan_runs.proofs.making.bring_home.Goals as goal
 use Rattle.plan_runs.proofs.making.bring_home.Goals.{After-perform}
@@ -24,14 +24,18 @@ returns-clause-event g c =
     let at = (goal.at.returns-clause-event g c).After-perform in
     c.end.ensures.event (sent_along c.args.flight (caller g at)) (is-back g at)
 
-pub returns-clause-comes : goal.returns-clause-comes
-returns-clause-comes g c = record {
+pub returns-clause-lands : goal.returns-clause-lands
+returns-clause-lands g c = record {
   comes = record {
     back = c.perform.new.self;
     performed = c.perform.ensures.performed;
+    disk = c.end.ensures.disk;
     ends = c.end.ensures.ends;
     world = c.end.ensures.tables;
     spaces = c.end.ensures.spaces;
   };
   tells = c.end.ensures.answer;
+  entry = c.end.ensures.entry;
+  marks = c.end.ensures.marks;
+  plan = c.end.ensures.plan;
 }

@@ -2,7 +2,7 @@ use Rattle.std.proofs.Common.{ℕ, Option, Some, None, ap, option_map, Bor}
 use Rattle.volume_files.specs.vm_types.declared.call.Call.{Call}
 use Rattle.vm_core.specs.vm_world.State.{KernelState, Caller, Sent}
 use Rattle.vm_core.specs.vm_world.Events.{IsEvent}
-use Rattle.plan_runs.specs.Transfers.{sent_along}
+use Rattle.vm_core.specs.SeatSteps.{sent_along}
 use Rattle.plan_runs.proofs.GoingOn.{still-at}
 use Rattle.plan_runs.proofs.Trips.{grows-as, kept_for, kept-here, sent-fits, there-and-back}
 use Rattle.plan_runs.proofs.making.transfer.Given.{Over}
@@ -36,7 +36,7 @@ pub returns-clause-grows : goal.returns-clause-grows
 returns-clause-grows g c =
     let at = (goal.at.returns-clause-grows g c).After-begin in
     grows-as (caller g at) c.bring_home.result c.args.state.now c.begin.new.self c.bring_home.new.state (ap (λ (s : KernelState). s.history) c.begin.ensures.rest)
-    c.bring_home.ensures.entry
+    c.bring_home.ensures.lands.entry
 
 pub returns-clause-goes : goal.returns-clause-goes
 returns-clause-goes g c = record {
@@ -47,8 +47,9 @@ returns-clause-goes g c = record {
     store = c.begin.ensures.begins;
     places = c.begin.ensures.places;
     tables = c.begin.ensures.tables;
+    pends = c.begin.ensures.pends;
+    marks = c.begin.ensures.marks;
     rest = c.begin.ensures.rest;
   };
-  comes = c.bring_home.ensures.comes.comes;
-  tells = c.bring_home.ensures.comes.tells;
+  lands = c.bring_home.ensures.lands;
 }

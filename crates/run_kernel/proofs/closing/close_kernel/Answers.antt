@@ -14,6 +14,7 @@ closes g c = record {
   closed = c.finish-finished.ensures.closed;
   fault = c.finish-finished.ensures.fault;
   left = c.finish-finished.ensures.left;
+  marks = c.finish-finished.ensures.marks;
   disks = c.finish-finished.ensures.disks;
   swap = swap-seen g.D.Disk.seen c.finish-finished.result.swap (bay_at c.args.state.memory.world.store.bays 8) c.finish-finished.ensures.swap;
   files = c.finish-finished.ensures.files;

@@ -31,7 +31,7 @@ pub returns-then-end-info-clause-serves : goal.returns-then-end-info-clause-serv
 returns-then-end-info-clause-serves g c = λ spaces p fits.
     let w = world_seen c.args.world.now in
     subst (λ (k : ℕ). ServesReply reply.Done (memory_of w spaces) (memory_of (world_seen c.make_shorter.new.world) spaces) c.args.world.now.pending k p (Truncate c.args.file c.args.end) (Ok tt)) (sym (ap (λ v. v.pending) c.make_shorter.ensures.rest))
-    (done w spaces c.args.world.now.pending p c.args.file c.args.end fits c.requires.served w (world_seen c.make_shorter.new.world) (keeps-same w spaces fits) (λ name frame home m. (home, m)) refl
+    (done w spaces c.args.world.now.pending p c.args.file c.args.end fits c.requires.served w (world_seen c.make_shorter.new.world) (keeps-same w spaces fits) (record { modified = λ name frame home m. (home, m); rewritten = λ name frame home m. (home, m) }) refl
     (λ extents grown. c.make_shorter.ensures.shorter spaces fits extents grown)
     (only-as (IsCutPage w c.args.file c.args.end) (λ name. IsGapPage w c.args.file c.args.end name ⊎ IsCutPage w c.args.file c.args.end name) w (world_seen c.make_shorter.new.world) (λ name cut. inr cut) c.make_shorter.ensures.modified))
 

@@ -7,7 +7,7 @@ use Rattle.seg_ops.specs.flat_model.Words.{page}
 use Rattle.seg_ops.specs.vm_world.FileSteps.{ChangesFile}
 use Rattle.seg_ops.specs.vm_world.Wants.{IsGapPage}
 use Rattle.seg_ops.specs.vm_world.World.{World, world_seen, file_name}
-use Rattle.seg_ops.proofs.NewlyModified.{only-as}
+use Rattle.seg_ops.proofs.NewlyModified.{only-as, only-same}
 use Rattle.seg_ops.proofs.StillSteps.{memory_of}
 use Rattle.seg_map.specs.Ends.{IsReadyPage}
 use Rattle.seg_map.specs.Longer.{MayLengthen}
@@ -60,6 +60,12 @@ returns-in-Home-clause-may g c = λ spaces fits.
     (subst (λ (k : ℕ). ChangesFile f (memory_of w spaces) (memory_of (record w { store = s }) spaces) (with_bytes_in (page k) (k % 4096) (gap_zeros k n))) e
     (subst (λ (x : World). ChangesFile f (memory_of w spaces) (memory_of x spaces) (with_bytes_in (page l) (l % 4096) (gap_zeros l n))) new put)))
 
+pub returns-then-end-length-clause-modified : goal.returns-then-end-length-clause-modified
+returns-then-end-length-clause-modified g c = only-same (IsGapPage (world_seen c.args.world.now) c.args.file c.args.end) (world_seen c.args.world.now)
+
+pub returns-then-tail-eq0-clause-modified : goal.returns-then-tail-eq0-clause-modified
+returns-then-tail-eq0-clause-modified g c = only-same (IsGapPage (world_seen c.args.world.now) c.args.file c.args.end) (world_seen c.args.world.now)
+
 pub returns-in-Home-clause-modified : goal.returns-in-Home-clause-modified
 returns-in-Home-clause-modified g c =
     let w = world_seen c.args.world.now in
@@ -79,5 +85,5 @@ returns-in_default g c =
       stay = λ name. refl;
       names = refl;
       lists = (refl, refl);
-      modified = λ name frame home m. inr (home, m);
+      modified = only-same _ w;
     }

@@ -8,7 +8,8 @@ use Rattle.seg_ops.specs.vnode_files.Files.{FilesSeen, vnode_at, growth_of}
 use Rattle.seg_ops.specs.vnode_files.Grow.{page_count}
 use Rattle.seg_ops.specs.vm_world.Wants.{IsCutPage}
 use Rattle.seg_ops.specs.vm_world.World.{world_seen}
-use Rattle.seg_ops.proofs.NewlyModified.{none-then, only-as}
+use Rattle.seg_ops.proofs.Modified.{modifies-tables}
+use Rattle.seg_ops.proofs.NewlyModified.{none-then, only-as, then-none}
 use Rattle.seg_ops.proofs.StillSteps.{memory_of}
 use Rattle.seg_map.specs.VoidedPages.{VoidsUpTo}
 use Rattle.seg_map.proofs.Shortens.{infos-count, info-of, none-held, own-growth, rest-shorter, shortens}
@@ -79,6 +80,8 @@ pub returns-clause-modified : goal.returns-clause-modified
 returns-clause-modified g c =
     let old = world_seen c.args.world.now in
     let mid = world_seen c.void_pages.new.world in
-    let new = world_seen c.put_tail.new.world in
+    let cut = world_seen c.put_tail.new.world in
+    let new = record cut { files = c.set_end.new.files } in
     none-then (IsCutPage old c.args.file c.args.end) old mid new c.void_pages.ensures.modified
-    (only-as (IsCutPage mid c.args.file c.args.end) (IsCutPage old c.args.file c.args.end) mid new (λ name cut. record { shorter = c.requires.shorter; tail = cut.tail; last = cut.last }) c.put_tail.ensures.modified)
+    (only-as (IsCutPage mid c.args.file c.args.end) (IsCutPage old c.args.file c.args.end) mid new (λ name is. record { shorter = c.requires.shorter; tail = is.tail; last = is.last })
+    (then-none (IsCutPage mid c.args.file c.args.end) mid cut new c.put_tail.ensures.modified (modifies-tables cut new refl refl)))

@@ -6,7 +6,7 @@ use Rattle.seg_ops.specs.vm_world.FileSteps.{ChangesFile}
 use Rattle.seg_ops.specs.vm_world.Wants.{IsCutPage}
 use Rattle.seg_ops.specs.vm_world.Words.{KeepsPages}
 use Rattle.seg_ops.specs.vm_world.World.{World, world_seen, file_name}
-use Rattle.seg_ops.proofs.NewlyModified.{none-then, only-as}
+use Rattle.seg_ops.proofs.NewlyModified.{none-then, only-as, only-same}
 use Rattle.seg_ops.proofs.StillSteps.{memory_of}
 use Rattle.seg_map.specs.Ends.{IsReadyPage}
 use Rattle.seg_map.specs.Puts.{with_bytes_in}
@@ -49,6 +49,12 @@ returns-in-Home-clause-may g c = λ spaces fits.
     (c.take_back.ensures.stay name ∙ sym c.in-Home.ensures.residence) c.put_zeros.ensures.store (subst (λ (v : World). IsReadyPage v name) (new g d) c.put_zeros.ensures.ready)
     (subst (λ (v : World). ChangesFile c.args.file (memory_of (record w { store = m }) spaces) (memory_of v spaces) (with_bytes_in (page c.args.end) (c.args.end % 4096) zeros)) (new g d)
     (subst (λ (u : World). ChangesFile c.args.file (memory_of u spaces) (memory_of (world_seen c.put_zeros.new.world) spaces) (with_bytes_in (page c.args.end) (c.args.end % 4096) zeros)) (mid g d) (c.put_zeros.ensures.puts spaces fits'))))
+
+pub returns-then-tail-eq0-clause-modified : goal.returns-then-tail-eq0-clause-modified
+returns-then-tail-eq0-clause-modified g c = only-same (IsCutPage (world_seen c.args.world.now) c.args.file c.args.end) (world_seen c.args.world.now)
+
+pub returns-in_default-clause-modified : goal.returns-in_default-clause-modified
+returns-in_default-clause-modified g c = only-same (IsCutPage (world_seen c.args.world.now) c.args.file c.args.end) (world_seen c.args.world.now)
 
 pub returns-in-Home-clause-modified : goal.returns-in-Home-clause-modified
 returns-in-Home-clause-modified g c =

@@ -2,6 +2,7 @@ use Rattle.std.proofs.Common.{refl, ap, ◌∙◌, arith}
 use Rattle.seg_ops.specs.flat_model.Words.{pages_in}
 use Rattle.seg_ops.specs.vnode_files.declared.vnode.FileInfo.{FileInfo}
 use Rattle.seg_ops.specs.vm_world.World.{world_seen}
+use Rattle.seg_ops.proofs.Modified.{modifies-same, modifies-then}
 use Rattle.seg_ops.proofs.StillSteps.{memory_of}
 use Rattle.seg_map.proofs.Shortens.{void-first, void-next, void-exists, infos-count, rest-then}
 use Rattle.seg_map.proofs.shorter.void_pages.Goals as goal
@@ -10,7 +11,7 @@ pub loop-page-init : goal.loop-page-init
 loop-page-init g c = record {
   voids = λ spaces fits. void-first (world_seen c.args.world.now) spaces c.args.file c.args.end c.pages_in-from.result fits c.requires.file c.pages_in-from.ensures.pages;
   rest = refl;
-  modified = λ name frame home m. (home, m);
+  modified = modifies-same (world_seen c.args.world.now);
 }
 
 pub loop-page-preserved : goal.loop-page-preserved
@@ -25,7 +26,7 @@ loop-page-preserved g c = record {
       void-next old (world_seen c.loop-page.world) (world_seen c.void_page.new.world) spaces c.args.file c.args.end c.loop-page.page c.requires.file (omega (arith, low, from)) (omega (arith, high, to)) b
       (c.void_page.ensures.voids spaces b.loses.changes.memory) c.void_page.ensures.files c.void_page.ensures.absent c.void_page.ensures.stay;
   rest = rest-then c.args.world.now c.loop-page.world c.void_page.new.world c.loop-page.invariant.rest c.void_page.ensures.rest;
-  modified = λ name frame home m. let was = c.void_page.ensures.modified name frame home m in c.loop-page.invariant.modified name frame was.0 was.1;
+  modified = modifies-then (world_seen c.args.world.now) (world_seen c.loop-page.world) (world_seen c.void_page.new.world) c.loop-page.invariant.modified c.void_page.ensures.modified;
 }
 
 pub void_page-requires-clause-file : goal.void_page-requires-clause-file

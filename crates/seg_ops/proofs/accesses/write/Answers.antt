@@ -1,11 +1,12 @@
 use Rattle.std.proofs.Common.{◌≡◌, ℕ, ◌%◌, List, Option, true, false, sym, ap, ◌∙◌, subst}
 use Rattle.vm_world.specs.flat_model.Words.{page, word_bytes}
 use Rattle.page_store.specs.Laws.{SameResidence}
+use Rattle.page_store.specs.Seen.{StoreSeen}
 use Rattle.page_store.specs.Steps.{with_piece}
 use Rattle.vm_world.specs.TranslationsFit.{HasWritten}
 use Rattle.vm_world.specs.World.{world_seen}
 use Rattle.seg_ops.proofs.Hits.{noted-hits, noted-home, noted-unlisted, write-word}
-use Rattle.seg_ops.proofs.NewlyModified.{bytes-modify}
+use Rattle.seg_ops.proofs.Modified.{rows-modify}
 use Rattle.seg_ops.proofs.Places.{written-store}
 use Rattle.seg_ops.proofs.accesses.write.Given.{Over}
 use Rattle.seg_ops.proofs.accesses.write.Goals.{After-put_word}
@@ -42,7 +43,7 @@ returns-clause-store g c = bytes-alone g (goal.at.returns-clause-store g c).Afte
 pub returns-clause-modified : goal.returns-clause-modified
 returns-clause-modified g c =
     let d = (goal.at.returns-clause-modified g c).After-put_word in
-    bytes-modify (world_seen c.args.world.now) c.put_word.new.store c.put_word.new.store.frames (bytes-alone g d) (stays g d)
+    rows-modify (world_seen c.args.world.now) c.put_word.new.store (ap (λ (s : StoreSeen). s.rows) (bytes-alone g d)) (stays g d)
 
 pub returns-clause-writes : goal.returns-clause-writes
 returns-clause-writes g c = λ spaces space fits noted.

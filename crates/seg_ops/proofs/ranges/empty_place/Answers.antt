@@ -1,9 +1,9 @@
-use Rattle.std.proofs.Common.{◌≡◌, None, sym, ap, ◌∙◌, subst}
+use Rattle.std.proofs.Common.{◌≡◌, None, refl, sym, ap, ◌∙◌, subst}
 use Rattle.vm_world.specs.anon_slots.Slots.{count_at}
 use Rattle.vm_world.specs.Serving.{ModifiesNone}
 use Rattle.vm_world.specs.World.{World, world_seen}
 use Rattle.vm_world.proofs.Counts.{held-used, used-below}
-use Rattle.seg_ops.proofs.Modified.{modifies-same}
+use Rattle.seg_ops.proofs.Modified.{modifies-same, modifies-tables}
 use Rattle.seg_ops.proofs.SlotObjects.{one-emptied, none-emptied}
 use Rattle.seg_ops.proofs.SlotPlaces.{place-same}
 use Rattle.seg_ops.proofs.SlotRanges.{changes-empty}
@@ -38,4 +38,4 @@ returns-in_default-clause-modified g c = modifies-same (world_seen c.args.world.
 pub returns-else-count-eq1-clause-modified : goal.returns-else-count-eq1-clause-modified
 returns-else-count-eq1-clause-modified g c =
     let w = world_seen c.args.world.now in
-    subst (λ (v : World). ModifiesNone w v) (sym (ap world_seen c.leave_slot.ensures.rest)) (modifies-same w)
+    subst (λ (v : World). ModifiesNone w v) (sym (ap world_seen c.leave_slot.ensures.rest)) (modifies-tables w (record w { anon = c.leave_slot.new.world.anon; maps = c.leave_slot.new.world.maps }) refl refl)

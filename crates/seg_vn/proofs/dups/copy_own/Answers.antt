@@ -7,7 +7,7 @@ use Rattle.seg_ops.specs.vm_world.CountsFit.{slots_for_part}
 use Rattle.seg_ops.specs.vm_world.ForkSteps.{maps_copied}
 use Rattle.seg_ops.specs.vm_world.World.{world_seen}
 use Rattle.seg_ops.specs.vm_world.declared.world.World.{World}
-use Rattle.seg_ops.proofs.Modified.{modifies-tables, modifies-then}
+use Rattle.seg_ops.proofs.Modified.{modifies-same, modifies-tables, modifies-then}
 use Rattle.seg_vn.specs.Copied.{HasNoWriters}
 use Rattle.seg_vn.proofs.CopiedSegments.{count-few, no-writers, slots-none, slots-own}
 use Rattle.seg_vn.proofs.LeftSegments.{own-is, part-within}
@@ -82,6 +82,9 @@ returns-clause-rest g c =
     let maps = ap (λ (v : World g.row.D.Denot). v.maps) e in
     let hat = ap (λ (v : World g.row.D.Denot). v.hat) e in
     e ∙ (λ i. record w { anon = record w.anon { counts = n.anon.counts; reserved = w.anon.reserved + sym slots i }; maps = sym maps i; hat = sym hat i })
+
+pub returns-in_err-map-clause-modified : goal.returns-in_err-map-clause-modified
+returns-in_err-map-clause-modified g c = modifies-same (world_seen c.args.world.now)
 
 pub returns-clause-modified : goal.returns-clause-modified
 returns-clause-modified g c =

@@ -9,7 +9,7 @@ use Rattle.vm_kernel.proofs.Fits.{fits-in, tries-in, has-process}
 use Rattle.vm_kernel.proofs.Visited.{Comes, quick-comes, tried-comes, goes-then, no-note, entered-so}
 use Rattle.vm_kernel.proofs.halves.access_at.Given.{Over}
 use Rattle.vm_kernel.proofs.halves.access_at.Goals as goal
-use Rattle.vm_kernel.proofs.Tries.{one-try, tried-inside}
+use Rattle.vm_kernel.proofs.Tries.{access-tells, one-try, tried-inside}
 use Rattle.vm_kernel.proofs.halves.access_at.Goals.{After-access_and_leave-answer}
 
 pub access_and_leave-answer-requires-clause-fits : goal.access_and_leave-answer-requires-clause-fits
@@ -32,12 +32,13 @@ comes g c =
     let v = c.args.seat.now in
     tried-comes c.args.lock.now.opening c.args.lock.now.seats v c.try_enter.new.seat c.access_and_leave-answer.new.seat c.in-Some.state c.args.process c.args.call.now (note_of_held c.access_and_leave-answer.new.sent)
     c.in-Some.ensures.state (entered-so v c.try_enter.new.seat c.in-Some.state c.in-Some.ensures.inside)
-    (has-process c.args.lock.now v c.args.process c.args.call.now c.requires.may c.requires.idle.named) (Ok (tried_of c.access_and_leave-answer.result)) c.access_and_leave-answer.ensures.leaves
+    (has-process c.args.lock.now v c.args.process c.args.call.now c.requires.may c.requires.idle.named) (no-note c.args.sent.now v.note c.requires.none c.requires.idle.hand) 0 0 (Ok (tried_of c.access_and_leave-answer.result))
+    (access-tells c.args.lock.now c.args.process c.args.call.now c.access_and_leave-answer.result c.requires.access) c.access_and_leave-answer.ensures.leaves
 
 pub returns-clause-goes : goal.returns-clause-goes
 returns-clause-goes g c =
     let x = comes g (goal.at.returns-clause-goes g c).After-access_and_leave-answer in
-    goes-then c.args.seat.now c.access_and_leave-answer.new.seat x.state (note_of_held c.access_and_leave-answer.new.sent) x.added c.args.process x.visit
+    goes-then c.args.seat.now c.access_and_leave-answer.new.seat x.state (note_of_held c.access_and_leave-answer.new.sent) x.added c.args.process x.visit x.home
 
 pub returns-clause-quick : goal.returns-clause-quick
 returns-clause-quick g c =
@@ -50,5 +51,5 @@ returns-clause-all g c =
     let v = c.args.seat.now in
     let w = c.access_and_leave-answer.new.seat in
     one-try c.args.lock.now c.args.process c.args.call.now v w
-    (tried-inside c.args.lock.now c.args.process c.args.call.now (Unit {0}) v c.try_enter.new.seat w c.in-Some.state (note_of_held c.access_and_leave-answer.new.sent) (tried_of c.access_and_leave-answer.result)
-    c.in-Some.ensures.state c.in-Some.ensures.inside c.access_and_leave-answer.ensures.leaves)
+    (tried-inside c.args.lock.now c.args.process c.args.call.now (Unit {0}) 0 0 v c.try_enter.new.seat w c.in-Some.state (note_of_held c.access_and_leave-answer.new.sent) (tried_of c.access_and_leave-answer.result)
+    c.in-Some.ensures.state c.in-Some.ensures.inside (access-tells c.args.lock.now c.args.process c.args.call.now c.access_and_leave-answer.result c.requires.access) c.access_and_leave-answer.ensures.leaves)

@@ -4,7 +4,7 @@ use Rattle.vm_kernel.specs.Notes.{note_of_held}
 use Rattle.vm_kernel.proofs.Fits.{fits-in, seated-in}
 use Rattle.vm_kernel.specs.Turns.{caller_at}
 use Rattle.vm_kernel.proofs.Calling.{goes-both}
-use Rattle.vm_kernel.proofs.Visited.{goes-then, hand-comes, moved-once, no-note, tried-number}
+use Rattle.vm_kernel.proofs.Visited.{goes-then, hand-comes, moved-once, no-note, tells-none, tried-number}
 use Rattle.vm_kernel.proofs.halves.move_at.Goals as goal
 
 pub hand_and_leave-requires-clause-fits : goal.hand_and_leave-requires-clause-fits
@@ -50,4 +50,4 @@ returns-clause-goes g c =
     let p = c.args.process in
     let note = note_of_held c.hand_and_leave.new.sent in
     let came = hand-comes c.args.lock.now.opening c.args.lock.now.seats v c.enter-state.new.seat m c.enter-state.result c.enter-state.ensures.state c.enter-state.ensures.inside note c.hand_and_leave.ensures.leaves in
-    goes-both (caller_at v p) (caller_at m p) (caller_at c.land.new.seat p) (goes-then v m came.state note [] p came.visit) c.land.ensures.goes
+    goes-both (caller_at v p) (caller_at m p) (caller_at c.land.new.seat p) (goes-then v m came.state note [] p came.visit (tells-none v.note note v.emptied 0 (no-note c.args.sent.now v.note c.requires.none c.requires.idle.hand))) c.land.ensures.goes

@@ -7,9 +7,10 @@ use Rattle.vm_kernel.specs.Callers.{SeatSeen}
 use Rattle.vm_kernel.specs.Notes.{InHand, note_of_held}
 use Rattle.vm_kernel.specs.Steps.{TriesAccess, tried_of}
 use Rattle.vm_kernel.specs.Turns.{IsQuick, caller_at}
-use Rattle.vm_kernel.specs.Visits.{LeavesTry, LeavesAccess}
+use Rattle.vm_kernel.specs.Visits.{LeavesTelling, LeavesAccess}
 use Rattle.vm_kernel.proofs.Fits.{event-at, fits-in, tries-in, has-process}
-use Rattle.vm_kernel.proofs.Tries.{one-try, tried-inside}
+use Rattle.vm_kernel.proofs.Told.{told-none}
+use Rattle.vm_kernel.proofs.Tries.{access-tells, one-try, tried-inside}
 use Rattle.vm_kernel.proofs.Visited.{Comes, quick-comes, tried-comes, goes-then, idle-then, no-note, entered-so}
 use Rattle.vm_kernel.proofs.hits.hit_at.Given.{Over}
 use Rattle.vm_kernel.proofs.hits.hit_at.Goals as goal
@@ -51,14 +52,14 @@ leave-requires-clause-moves g c = (
   hit-event g (goal.at.leave-requires-clause-moves g c).After-number c.try_hit.new.self c.in-Some-try_hit.ensures.event,
 )
 
-hit-leaves : (g : Over) (c : After-leave g) → LeavesTry {E = Unit {0}} c.try_enter.new.seat c.in-Some.state c.args.process c.args.call.now c.leave.new.seat (note_of_held c.args.sent.now) (Ok (tried_of c.in-Some-try_hit.answer))
+hit-leaves : (g : Over) (c : After-leave g) → LeavesTelling {E = Unit {0}} 0 0 c.try_enter.new.seat c.in-Some.state c.args.process c.args.call.now c.leave.new.seat (note_of_held c.args.sent.now) (Ok (tried_of c.in-Some-try_hit.answer))
 hit-leaves g c =
     let b = c.try_enter.new.seat in
     let t = c.try_hit.new.self in
     let none = ap (λ (w : SeatSeen). w.note) c.in-Some.ensures.inside ∙ no-note c.args.sent.now c.args.seat.now.note c.requires.none c.requires.idle.hand in (
       t,
       record {
-        new = c.leave.ensures.new;
+        new = c.leave.ensures.new ∙ told-none _;
         event = event-at c.in-Some.state t c.number.result b.number None b.note (note_of_held c.args.sent.now) c.number.ensures none
             (subst (λ o. IsEvent c.number.result c.in-Some.state None t (note_of_held o)) (sym c.requires.none) c.in-Some-try_hit.ensures.event);
       },
@@ -72,14 +73,15 @@ hit-comes g c =
     let b = c.try_enter.new.seat in
     tried-comes c.args.lock.now.opening c.args.lock.now.seats v b c.leave.new.seat c.in-Some.state c.args.process c.args.call.now (note_of_held c.args.sent.now)
     c.in-Some.ensures.state (entered-so v b c.in-Some.state c.in-Some.ensures.inside)
-    (has-process c.args.lock.now v c.args.process c.args.call.now c.requires.may c.requires.idle.named) (Ok (tried_of c.in-Some-try_hit.answer)) (hit-leaves g c)
+    (has-process c.args.lock.now v c.args.process c.args.call.now c.requires.may c.requires.idle.named) (no-note c.args.sent.now v.note c.requires.none c.requires.idle.hand) 0 0 (Ok (tried_of c.in-Some-try_hit.answer))
+    (access-tells c.args.lock.now c.args.process c.args.call.now c.in-Some-try_hit.answer c.requires.access) (hit-leaves g c)
 
 pub returns-in-Some-try_hit-clause-all : goal.returns-in-Some-try_hit-clause-all
 returns-in-Some-try_hit-clause-all g c =
     let v = c.args.seat.now in
     one-try c.args.lock.now c.args.process c.args.call.now v c.leave.new.seat
-    (tried-inside c.args.lock.now c.args.process c.args.call.now (Unit {0}) v c.try_enter.new.seat c.leave.new.seat c.in-Some.state (note_of_held c.args.sent.now) (tried_of c.in-Some-try_hit.answer)
-    c.in-Some.ensures.state c.in-Some.ensures.inside (hit-leaves g (goal.at.returns-in-Some-try_hit-clause-all g c).After-leave))
+    (tried-inside c.args.lock.now c.args.process c.args.call.now (Unit {0}) 0 0 v c.try_enter.new.seat c.leave.new.seat c.in-Some.state (note_of_held c.args.sent.now) (tried_of c.in-Some-try_hit.answer)
+    c.in-Some.ensures.state c.in-Some.ensures.inside (access-tells c.args.lock.now c.args.process c.args.call.now c.in-Some-try_hit.answer c.requires.access) (hit-leaves g (goal.at.returns-in-Some-try_hit-clause-all g c).After-leave))
 
 pub returns-in-Some-try_hit-clause-idle : goal.returns-in-Some-try_hit-clause-idle
 returns-in-Some-try_hit-clause-idle g c =
@@ -90,7 +92,7 @@ returns-in-Some-try_hit-clause-idle g c =
 pub returns-in-Some-try_hit-clause-goes : goal.returns-in-Some-try_hit-clause-goes
 returns-in-Some-try_hit-clause-goes g c =
     let x = hit-comes g (goal.at.returns-in-Some-try_hit-clause-goes g c).After-leave in
-    goes-then c.args.seat.now c.leave.new.seat x.state (note_of_held c.args.sent.now) x.added c.args.process x.visit
+    goes-then c.args.seat.now c.leave.new.seat x.state (note_of_held c.args.sent.now) x.added c.args.process x.visit x.home
 
 pub returns-in-Some-try_hit-clause-quick : goal.returns-in-Some-try_hit-clause-quick
 returns-in-Some-try_hit-clause-quick g c =
@@ -133,15 +135,16 @@ miss-comes g c =
     let l = c.miss_at.ensures.leaves in
     tried-comes c.args.lock.now.opening c.args.lock.now.seats v c.try_enter.new.seat c.miss_at.new.seat c.in-Some.state c.args.process c.args.call.now l.1
     c.in-Some.ensures.state (entered-so v c.try_enter.new.seat c.in-Some.state c.in-Some.ensures.inside)
-    (has-process c.args.lock.now v c.args.process c.args.call.now c.requires.may c.requires.idle.named) (Ok (tried_of l.0)) (miss-leaves g c)
+    (has-process c.args.lock.now v c.args.process c.args.call.now c.requires.may c.requires.idle.named) (no-note c.args.sent.now v.note c.requires.none c.requires.idle.hand) 0 0 (Ok (tried_of l.0))
+    (access-tells c.args.lock.now c.args.process c.args.call.now l.0 c.requires.access) (miss-leaves g c)
 
 pub returns-clause-all : goal.returns-clause-all
 returns-clause-all g c =
     let v = c.args.seat.now in
     let l = c.miss_at.ensures.leaves in
     one-try c.args.lock.now c.args.process c.args.call.now v c.miss_at.new.seat
-    (tried-inside c.args.lock.now c.args.process c.args.call.now (Unit {0}) v c.try_enter.new.seat c.miss_at.new.seat c.in-Some.state l.1 (tried_of l.0)
-    c.in-Some.ensures.state c.in-Some.ensures.inside (miss-leaves g (goal.at.returns-clause-all g c).After-miss_at))
+    (tried-inside c.args.lock.now c.args.process c.args.call.now (Unit {0}) 0 0 v c.try_enter.new.seat c.miss_at.new.seat c.in-Some.state l.1 (tried_of l.0)
+    c.in-Some.ensures.state c.in-Some.ensures.inside (access-tells c.args.lock.now c.args.process c.args.call.now l.0 c.requires.access) (miss-leaves g (goal.at.returns-clause-all g c).After-miss_at))
 
 pub returns-clause-idle : goal.returns-clause-idle
 returns-clause-idle g c =
@@ -151,7 +154,7 @@ returns-clause-idle g c =
 pub returns-clause-goes : goal.returns-clause-goes
 returns-clause-goes g c =
     let x = miss-comes g (goal.at.returns-clause-goes g c).After-miss_at in
-    goes-then c.args.seat.now c.miss_at.new.seat x.state c.miss_at.ensures.leaves.1 x.added c.args.process x.visit
+    goes-then c.args.seat.now c.miss_at.new.seat x.state c.miss_at.ensures.leaves.1 x.added c.args.process x.visit x.home
 
 pub returns-clause-quick : goal.returns-clause-quick
 returns-clause-quick g c =

@@ -1,7 +1,8 @@
-use Rattle.std.proofs.Common.{None, sym, subst}
+use Rattle.std.proofs.Common.{None, ◌∙◌, sym, subst}
 use Rattle.vm_core.specs.Fits.{FitsAt}
 use Rattle.vm_kernel.specs.Notes.{note_of_held}
 use Rattle.vm_kernel.proofs.Fits.{event-at}
+use Rattle.vm_kernel.proofs.Told.{told-none}
 use Rattle.vm_kernel.proofs.visits.access_and_leave.Goals as goal
 
 pub access_and_begin-answer-requires-clause-fits : goal.access_and_begin-answer-requires-clause-fits
@@ -19,7 +20,7 @@ pub returns-clause-leaves : goal.returns-clause-leaves
 returns-clause-leaves g c = (
   c.access_and_begin-answer.new.self,
   record {
-    new = c.leave.ensures.new;
+    new = c.leave.ensures.new ∙ told-none _;
     event = event-at c.args.state c.access_and_begin-answer.new.self c.number.result c.args.seat.now.number None c.args.seat.now.note (note_of_held c.access_and_begin-answer.new.sent) c.number.ensures
         c.requires.inside.2 c.access_and_begin-answer.ensures.event;
   },

@@ -1,7 +1,8 @@
-use Rattle.std.proofs.Common.{◌<◌, None, length, sym, subst}
+use Rattle.std.proofs.Common.{◌<◌, None, length, ◌∙◌, sym, subst}
 use Rattle.vm_core.specs.Fits.{FitsAt}
 use Rattle.vm_kernel.specs.Notes.{note_of_held}
 use Rattle.vm_kernel.proofs.Fits.{event-at}
+use Rattle.vm_kernel.proofs.Told.{told-none}
 use Rattle.vm_kernel.proofs.visits.hand_and_leave.Goals as goal
 
 pub move_hand-requires : goal.move_hand-requires
@@ -23,7 +24,7 @@ pub returns-clause-leaves : goal.returns-clause-leaves
 returns-clause-leaves g c = (
   c.move_hand.new.self,
   record {
-    new = c.leave.ensures.new;
+    new = c.leave.ensures.new ∙ told-none _;
     event = event-at c.args.state c.move_hand.new.self c.number.result c.args.seat.now.number None c.args.seat.now.note (note_of_held c.move_hand.new.sent) c.number.ensures
         c.requires.inside.2 c.move_hand.ensures.event;
   },

@@ -1,7 +1,5 @@
-use Rattle.std.proofs.Common.{rules, ◌≡◌, ◌∙◌, ap, ℕ, Option, Some, None, Vec, refl}
-use Rattle.std.specs.Prelude.{option_map}
-use Rattle.std.specs.List.{each_same}
-use Rattle.std.specs.declared.alloc.Global.{Global}
+use Rattle.std.proofs.Common.{rules, ◌≡◌, ◌∙◌, ap, Option, Some, None, refl}
+use Rattle.flat_model.specs.Words.{Page}
 use Rattle.std.specs.FinMap as map
 use Rattle.flat_state.specs.declared.cells.CellState.{CellState}
 use Rattle.flat_state.specs.contracts.cells.CellStateClone.TheImpl.{ghosts}
@@ -9,15 +7,15 @@ use Rattle.flat_state.specs.Cells.{flat_cell}
 use Rattle.flat_state.proofs.Trees.{mapped_clone}
 use Rattle.flat_state.proofs.cells.Cells.copied.Goals as goal
 
-abbrev cell_with : CellState → Option (Vec ℕ Global) → CellState
+abbrev cell_with : CellState → Option Page → CellState
 cell_with c own = record c { own = own }
 
 -- a copy has the same page of its own
-own_alike : (v w : CellState) (own new : Option (Vec ℕ Global)) → ghosts.is_clone (cell_with v own) (cell_with w new) → option_map (λ p. p.items) new ≡ option_map (λ p. p.items) own
+own_alike : (v w : CellState) (own new : Option Page) → ghosts.is_clone (cell_with v own) (cell_with w new) → new ≡ own
 own_alike v w None None h = refl
 own_alike v w None (Some y) h = absurd h.1.1.1.1.1
 own_alike v w (Some x) None h = absurd h.1.1.1.1.1
-own_alike v w (Some x) (Some y) h = ap (λ i. Some i) (each_same x.items y.items h.1.1.1.1.1.0)
+own_alike v w (Some x) (Some y) h = ap (λ i. Some i) h.1.1.1.1.1
 
 cell_alike : (v w : CellState) → ghosts.is_clone v w → flat_cell w ≡ flat_cell v
 cell_alike v w h =

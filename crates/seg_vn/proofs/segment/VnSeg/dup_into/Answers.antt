@@ -8,6 +8,7 @@ use Rattle.seg_ops.specs.vm_world.World.{world_seen}
 use Rattle.seg_ops.specs.vm_world.declared.segment.Segment.{Segment}
 use Rattle.seg_ops.specs.vm_world.declared.world.World.{World}
 use Rattle.seg_ops.proofs.vm_world.KeptMaps.{same-holders, same-there}
+use Rattle.seg_ops.proofs.Modified.{modifies-tables, modifies-then}
 use Rattle.seg_vn.specs.Cuts.{IsPartAt}
 use Rattle.seg_vn.specs.Copied.{HasNoWriters, KeepsPlaces}
 use Rattle.seg_vn.proofs.CopiedSegments.{copied-else, copied-keeps, copy-changes}
@@ -67,3 +68,10 @@ returns-clause-kept g c n there =
     let maps = ap (λ (v : World g.row.D.Denot). v.maps) c.hold_shown.ensures.held ∙ ap (λ (ms : List (Option Map)). maps_held ms s.shown) k.3 in
     subst (λ (ms : List (Option Map)). KeepsPlaces w.maps ms n) (sym maps)
     (copied-keeps w.maps s.own s.shown k.0 n k.2 (λ m is. (shown-is (world_seen w) r.0 c.args.space c.args.first c.args.self.now r.1 m (ap (λ (t : Segment). t.shown) (sym c.self.view_is) ∙ is)).0) there)
+
+pub returns-clause-modified : goal.returns-clause-modified
+returns-clause-modified g c =
+    let u = c.copy_own-own.new.world in
+    let n = c.hold_shown.new.world in
+    modifies-then (world_seen c.args.world.now) (world_seen u) (world_seen n) c.copy_own-own.ensures.modified
+    (modifies-tables (world_seen u) (world_seen n) (ap (λ (w : World g.row.D.Denot). w.store) c.hold_shown.ensures.held) (ap (λ (w : World g.row.D.Denot). w.hat) c.hold_shown.ensures.held))

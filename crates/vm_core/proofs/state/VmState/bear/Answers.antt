@@ -9,6 +9,7 @@ use Rattle.fault_entry.specs.vm_world.Segments.{Spaces}
 use Rattle.fault_entry.specs.vm_world.Serving.{ModifiesNone}
 use Rattle.fault_entry.specs.vm_world.State.{KernelState, process_parent}
 use Rattle.fault_entry.specs.vm_world.World.{world_seen}
+use Rattle.fault_entry.specs.vm_world.declared.sync_start.SyncStart.{SyncStart}
 use Rattle.vm_core.proofs.Forked.{ChildPlaces, child-places, count-starts, forked-as, kept-forked}
 use Rattle.vm_core.proofs.Served.{same-again}
 use Rattle.vm_core.proofs.state.VmState.bear.Given.{Over}
@@ -58,7 +59,7 @@ pub invariant_of-self-2 : goal.invariant_of-self-2
 invariant_of-self-2 g c =
     let p = (goal.at.invariant_of-self-2 g c).After-fork in
     kept-forked (before g p) (after g p) c.self.inside.world.zeros c.fork.new.world.zeros _ c.self.inside.parents.items c.self.inside.spaces.processes (length c.self.inside.born.items) (length c.self.inside.syncs) c.fork.new.spaces.processes (length c.note_birth.new.born.items) (length c.note_birth.new.syncs) c.self.invariant c.fork.ensures.zeros (same-store g p)
-    c.fork.ensures.processes c.note_birth.ensures.marks (ap (λ (l : List (Option ℕ)). length l) c.note_birth.ensures.syncs ∙ count-starts c.self.inside.syncs c.args.child c.in_ok-reply.reply)
+    c.fork.ensures.processes c.note_birth.ensures.marks (ap (λ (l : List (Option SyncStart)). length l) c.note_birth.ensures.syncs ∙ count-starts c.self.inside.syncs c.args.child c.in_ok-reply.reply)
 
 modified : (g : Over) (c : After-fork g) → ModifiesNone c.args.self.now.memory.world (after g c).world
 modified g c = subst (λ (s : KernelState). ModifiesNone s.memory.world (world_seen c.fork.new.world)) c.self.view_is c.fork.ensures.modified

@@ -7,6 +7,7 @@ use Rattle.fault_entry.specs.vm_world.SyncSteps.{start_of}
 use Rattle.fault_entry.specs.vm_world.World.{world_seen}
 use Rattle.fault_entry.specs.vm_world.ZeroObjects.{KnowsZeros}
 use Rattle.fault_entry.specs.seg_vn.Serves.{Serves}
+use Rattle.fault_entry.specs.vm_world.declared.sync_start.SyncStart.{SyncStart}
 use Rattle.vm_core.specs.State.{EachHasPlaces, IsSoundKernel}
 use Rattle.vm_core.proofs.Served.{kept-served, synced-own, synced-rest}
 use Rattle.vm_core.proofs.state.VmState.clean.Goals as goal
@@ -19,7 +20,7 @@ invariant_of-self g c =
     let before : Memory = record { world = world_seen c.self.inside.world; spaces = c.self.inside.spaces.spaces } in
     let after : Memory = record { world = world_seen c.sync-attempt.new.world; spaces = c.self.inside.spaces.spaces } in
     let zeros = ap (λ w. w.zeros) {y = record c.self.inside.world { store = c.sync-attempt.new.world.store; hat = c.sync-attempt.new.world.hat }} c.sync-attempt.ensures.makes.rest in
-    let seats = sym (ap (λ (l : List (Option ℕ)). length l) c.look_next.ensures) in (
+    let seats = sym (ap (λ (l : List (Option SyncStart)). length l) c.look_next.ensures) in (
       subst (λ (n : ℕ). IsSoundKernel c.sync-attempt.new.world.store c.sync-attempt.new.world.zeros c.self.inside.spaces.spaces c.self.inside.ledger.entries n) seats
           (kept-served before after c.self.inside.world.zeros c.sync-attempt.new.world.zeros _ _ [] _ _ _ _ _ c.self.invariant.0 (subst (λ (zs : List (Option ℕ)). KnowsZeros zs c.self.inside.spaces.spaces) (sym zeros) c.self.invariant.0.known) (c.sync-attempt.ensures.serves [])),
       subst (λ (n : ℕ). EachHasPlaces c.self.inside.parents.items c.self.inside.spaces.processes (length c.self.inside.born.items) n) seats c.self.invariant.1,
@@ -31,7 +32,7 @@ returns-clause-serves g c =
     subst (λ (s : KernelState). Serves s.memory after s.pending c.sync-attempt.new.world.pending s.calls c.args.process (Sync c.args.addr c.args.bytes) c.sync-attempt.result) c.self.view_is (c.sync-attempt.ensures.serves c.self.inside.calls)
 
 pub returns-clause-own : goal.returns-clause-own
-returns-clause-own g c = synced-own c.args.self.now c.args.process c.sync_start-from.result c.sync-attempt.result (c.sync_start-from.ensures ∙ ap (start_of c.args.self.now) (sym c.requires.own)) c.sync-attempt.ensures.answer
+returns-clause-own g c = synced-own c.args.self.now c.args.process c.sync_start-from.result (Sync c.args.addr c.args.bytes) c.sync-attempt.result (c.sync_start-from.ensures ∙ ap (λ (k : ℕ). start_of c.args.self.now k (Sync c.args.addr c.args.bytes)) (sym c.requires.own)) c.sync-attempt.ensures.answer
 
 pub returns-clause-slots : goal.returns-clause-slots
 returns-clause-slots g c = ap (λ w. w.anon) {y = record c.self.inside.world { store = c.sync-attempt.new.world.store; hat = c.sync-attempt.new.world.hat }} c.sync-attempt.ensures.makes.rest ∙ ap (λ (s : KernelState). s.memory.world.anon) c.self.view_is

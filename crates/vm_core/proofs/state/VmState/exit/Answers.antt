@@ -23,7 +23,7 @@ returns-clause-serves g c =
     c.self.view_is (c.in-Ok.ensures.done c.self.inside.calls)
 
 pub returns-clause-own : goal.returns-clause-own
-returns-clause-own g c = exited-own c.args.self.now c.args.process c.in-Ok.attempt c.in-Ok.ensures.answer
+returns-clause-own g c = exited-own c.args.self.now c.args.process c.args.call.now c.in-Ok.attempt c.in-Ok.ensures.answer
 
 pub returns-clause-fall : goal.returns-clause-fall
 returns-clause-fall g c slot = subst (λ (s : KernelState). count_at c.attempt.new.world.anon slot ≤ count_at s.memory.world.anon slot) c.self.view_is (c.attempt.ensures.fall slot)

@@ -57,7 +57,7 @@ pub returns-clause-memory : goal.returns-clause-memory
 returns-clause-memory g c = on_err_any c.attempt.result (TakesMemory c.args.call.now) (mapping-memory c.args.call.now c.requires.served)
 
 pub returns-clause-own : goal.returns-clause-own
-returns-clause-own g c = ok-then _ (IsOwnReply c.args.self.now c.args.process) c.attempt.result (λ a answer. mapped-own c.args.self.now c.args.process _ c.args.call.now a c.requires.served answer) c.attempt.ensures.answer
+returns-clause-own g c = ok-then _ (IsOwnReply c.args.self.now c.args.process c.args.call.now) c.attempt.result (λ a answer. mapped-own c.args.self.now c.args.process _ c.args.call.now a c.requires.served answer) c.attempt.ensures.answer
 
 pub returns-clause-alive : goal.returns-clause-alive
 returns-clause-alive g c = ok-always (λ a. StaysAlive (after g c) c.args.process c.args.call.now) c.attempt.result (λ a other. c.attempt.ensures.alive)

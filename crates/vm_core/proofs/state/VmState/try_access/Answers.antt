@@ -4,12 +4,13 @@ use Rattle.fault_entry.specs.vm_types.declared.call.Call.TheVariants.{Sync, Trun
 use Rattle.fault_entry.specs.vm_world.State.{KernelState}
 use Rattle.fault_entry.specs.declared.answers.Answer.{Answer}
 use Rattle.vm_core.specs.Answered.{MarksAfterCall}
-use Rattle.vm_core.proofs.Served.{Tries, WasServed, access-formed, access-own, access-plain, plain-marks, same-marks, tries-own}
+use Rattle.vm_core.specs.SeatSteps.{AnswersTry}
+use Rattle.vm_core.proofs.Served.{WasServed, access-formed, access-own, access-plain, plain-marks, same-marks, tries-own}
 use Rattle.vm_core.proofs.state.VmState.try_access.Given.{Over}
 use Rattle.vm_core.proofs.state.VmState.try_access.Goals.{After-settle}
 use Rattle.vm_core.proofs.state.VmState.try_access.Goals as goal
 
-accessed : (g : Over) (c : After-settle g) → Tries c.args.self.now c.settle.new.self c.args.seat c.args.process c.args.call.now (attempt_of c.settle.result)
+accessed : (g : Over) (c : After-settle g) → AnswersTry c.args.self.now c.settle.new.self c.args.seat c.args.process c.args.call.now (attempt_of c.settle.result)
 accessed g c =
     let e = c.access-answer.ensures in
     tries-own c.args.seat c.args.process c.args.self.now c.access-answer.new.self c.settle.new.self c.args.call.now (attempt_of c.settle.result) c.requires.fits (access-own c.args.call.now c.requires.access) c.requires.may (access-formed c.args.call.now c.requires.access)

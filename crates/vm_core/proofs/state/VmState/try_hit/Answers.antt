@@ -3,12 +3,13 @@ use Rattle.fault_entry.specs.Answers.{attempt_of}
 use Rattle.fault_entry.specs.vm_types.declared.call.Call.TheVariants.{Sync, Truncate}
 use Rattle.fault_entry.specs.vm_world.State.{KernelState}
 use Rattle.vm_core.specs.Answered.{MarksAfterCall}
-use Rattle.vm_core.proofs.Served.{Tries, access-formed, access-own, access-plain, plain-marks, same-marks, tries-own}
+use Rattle.vm_core.specs.SeatSteps.{AnswersTry}
+use Rattle.vm_core.proofs.Served.{access-formed, access-own, access-plain, plain-marks, same-marks, tries-own}
 use Rattle.vm_core.proofs.state.VmState.try_hit.Given.{Over}
 use Rattle.vm_core.proofs.state.VmState.try_hit.Goals.{After-settle_hit}
 use Rattle.vm_core.proofs.state.VmState.try_hit.Goals as goal
 
-accessed : (g : Over) (c : After-settle_hit g) → Tries c.args.self.now c.settle_hit.new.self c.args.seat c.args.process c.args.call.now (attempt_of c.in-Some.answer)
+accessed : (g : Over) (c : After-settle_hit g) → AnswersTry c.args.self.now c.settle_hit.new.self c.args.seat c.args.process c.args.call.now (attempt_of c.in-Some.answer)
 accessed g c =
     let e = c.in-Some.ensures in
     tries-own c.args.seat c.args.process c.args.self.now c.hit.new.self c.settle_hit.new.self c.args.call.now (attempt_of c.in-Some.answer) c.requires.fits (access-own c.args.call.now c.requires.access) c.requires.may (access-formed c.args.call.now c.requires.access)

@@ -17,7 +17,8 @@ use Rattle.fault_entry.proofs.vm_world.Told.{event_law}
 use Rattle.file_calls.specs.Locks.{IsAnothers}
 use Rattle.vm_core.specs.Answered.{MarksAfterCall}
 use Rattle.vm_core.specs.Calls.{IsOnOwnSpace, IsShownAfterCall, IsHitAfterCall, TakesMemory, after_answer}
-use Rattle.vm_core.proofs.Served.{Tries, WasServed, after-file, concerns-mappings, file-kind, none-waits, not-load, not-store, ok-always, own-mappings, plain-marks, served-is, tries-file, tries-own}
+use Rattle.vm_core.specs.SeatSteps.{AnswersTry}
+use Rattle.vm_core.proofs.Served.{WasServed, after-file, concerns-mappings, file-kind, none-waits, not-load, not-store, ok-always, own-mappings, plain-marks, served-is, tries-file, tries-own}
 use Rattle.vm_core.proofs.state.VmState.try_other.Given.{Over}
 use Rattle.vm_core.proofs.state.VmState.try_other.Goals.{After-conclude, After-conclude-2}
 use Rattle.vm_core.proofs.state.VmState.try_other.Goals as goal
@@ -43,7 +44,7 @@ returns-in-Fork g c =
     }
 
 -- A call on a file.
-filed : (g : Over) (c : After-conclude g) → Tries c.args.self.now c.conclude.new.self c.args.seat c.args.process c.args.call.now c.conclude.result
+filed : (g : Over) (c : After-conclude g) → AnswersTry c.args.self.now c.conclude.new.self c.args.seat c.args.process c.args.call.now c.conclude.result
 filed g c =
     let e = c.serve_file_marked-attempt.ensures in
     let mid = c.serve_file_marked-attempt.new.self in
@@ -51,7 +52,7 @@ filed g c =
     let of = file-kind c.args.call.now c.in-Read.is in
     let left = after-file c.args.self.now.memory mid.memory c.args.process c.args.call.now a of e.slots in
     let alive : StaysAlive mid.memory c.args.process c.args.call.now = λ other. subst (λ (spaces : Spaces). IsSome (finite.get spaces c.args.process)) (sym e.spaces) c.requires.may.alive in
-    subst (λ (b : Attempt). Tries c.args.self.now c.conclude.new.self c.args.seat c.args.process c.args.call.now b) (sym c.conclude.ensures.same)
+    subst (λ (b : Attempt). AnswersTry c.args.self.now c.conclude.new.self c.args.seat c.args.process c.args.call.now b) (sym c.conclude.ensures.same)
     (tries-file c.args.seat c.args.process c.args.self.now mid c.conclude.new.self c.args.call.now a c.requires.fits of c.requires.may c.requires.formed
     (record { serves = e.serves; shown = left.shown; slots = left.slots; hit = left.hit; own = e.own; alive = alive; marks = e.marks }) e.waits e.places e.rest
     (c.conclude.ensures.new ∙ ap (λ (b : Attempt). after_answer mid c.args.seat c.args.process c.args.call.now b) c.conclude.ensures.same) c.conclude.ensures.seated)
@@ -81,7 +82,7 @@ own-space g c =
     own-mappings c.args.call.now
     (concerns-mappings c.args.call.now (not-load c.args.call.now c.requires.formed c.requires.other) (not-store c.args.call.now c.requires.formed c.requires.other) c.in_default.not-Fork c.in_default-call.not-Read c.in_default-call.not-Write c.in_default-call.not-Truncate)
 
-served : (g : Over) (c : After-conclude-2 g) → Tries c.args.self.now c.conclude-2.new.self c.args.seat c.args.process c.args.call.now c.conclude-2.result
+served : (g : Over) (c : After-conclude-2 g) → AnswersTry c.args.self.now c.conclude-2.new.self c.args.seat c.args.process c.args.call.now c.conclude-2.result
 served g c =
     let e = c.in_ok-attempt.ensures in
     tries-own c.args.seat c.args.process c.args.self.now c.serve.new.self c.conclude-2.new.self c.args.call.now c.conclude-2.result c.requires.fits (own-space g c) c.requires.may c.requires.formed

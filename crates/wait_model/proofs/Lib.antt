@@ -1,0 +1,10 @@
+pub mod Tests
+pub mod Stands
+pub mod Keeping
+pub mod Tables
+pub mod OwnKeeps
+pub mod Holding
+pub mod Woken
+pub mod Reached
+pub mod Awake
+pub mod Worked
