@@ -1,5 +1,5 @@
-//! The visits of bench_lock in plain Rust, without proofs, behind a `std::sync::Mutex`. bench/lock times it beside
-//! bench_lock, with the same arguments.
+//! The visits of bench_tables' lock in plain Rust, without proofs, behind a `std::sync::Mutex`. bench/lock times it beside
+//! it, with the same numbers.
 use std::hint::black_box;
 use std::sync::Mutex;
 

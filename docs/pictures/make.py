@@ -236,7 +236,7 @@ def stands_on():
     """Each crate that isn't of tests or timed, with those that it stands on, less those that one of these brings along; and the program's."""
     lines = [line.split('#')[0].split(':') for line in open(os.path.join(HERE, '../../crates.txt'))]
     all_of = {line[0].split()[0]: line[1].split() for line in lines if len(line) > 1}
-    all_of = {crate: [it for it in below if it in all_of] for crate, below in all_of.items() if not crate.startswith('bench_') and not crate.endswith('_trials')}
+    all_of = {crate: [it for it in below if it in all_of] for crate, below in all_of.items() if not crate.startswith(('test_', 'bench_'))}
 
     def reach(crate):
         return set(all_of[crate]).union(*map(reach, all_of[crate]))

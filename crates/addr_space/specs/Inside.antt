@@ -14,6 +14,7 @@ abbrev pub count_below : ℕ → List Span → ℕ
 count_below bound [] = 0
 count_below bound (s ∷ ss) = if nat_lt s.first bound then suc (count_below bound ss) else 0
 
+-- there is a piece for each span, and the parts that they make lie in order from page 1 on
 pub record IsSoundRanges {T : Type 0} (spans : List Span) (pieces : List T) : Type 0 where
   pub lengths : length spans ≡ length pieces
   pub ordered : IsInOrder 1 (span_parts spans pieces)
@@ -38,6 +39,7 @@ abbrev pub NoneHolds : ℕ → List Span → Type 0
 NoneHolds page [] = Unit {0}
 NoneHolds page (s ∷ ss) = (covers s page ≡ false) × NoneHolds page ss
 
+-- the place of the first span that has the page, or none where no span has it
 abbrev pub FindsHolder : List Span → ℕ → Option ℕ → Type 0
 FindsHolder ss page None = NoneHolds page ss
 FindsHolder ss page (Some i) = IsHolder page ss i × (i < length ss)

@@ -13,15 +13,18 @@ pub record RangesSeen (T : Type 0) : Type 0 where
   pub parts : List (Part T)
   pub spare : ℕ
 
+-- a part as data: its first page, its number of pages and its piece
 abbrev pub part_code : {T : Type 0} → Coded T → Coded (Part T)
 part_code {T} code =
     code_by (ℕ × (ℕ × T)) (coded× coded_ℕ (coded× coded_ℕ code)) (λ p. (p.first, (p.pages, p.piece))) (λ t. record { first = t.0; pages = t.1.0; piece = t.1.1 }) (λ _. refl)
 
+-- what is seen of a space as data: its parts, and the room that is kept for more
 abbrev pub space_code : {T : Type 0} → Coded T → Coded (RangesSeen T)
 space_code {T} code =
     code_by (List (Part T) × ℕ) (coded× (coded_list (part_code code)) coded_ℕ) (λ s. (s.parts, s.spare)) (λ t. record { parts = t.0; spare = t.1 }) (λ _. refl)
 
 module _ {T : Type 0} where
+  -- the part with this first page, this number of pages and this piece
   abbrev pub part : ℕ → ℕ → T → Part T
   part first pages piece = record { first = first; pages = pages; piece = piece }
 
@@ -69,10 +72,11 @@ module _ {T : Type 0} where
   with_new_part new [] = new ∷ []
   with_new_part new (p ∷ ps) = if nat_lt p.first new.first then p ∷ with_new_part new ps else new ∷ p ∷ ps
 
-  -- what a part keeps below the page, and what the upper piece has from there on
+  -- what a part keeps below the page
   abbrev pub lower_part : ℕ → Part T → Part T
   lower_part page p = part p.first (page - p.first) p.piece
 
+  -- what the upper piece has of a part, from the page on
   abbrev pub upper_part : ℕ → T → Part T → Part T
   upper_part page upper p = part page (p.first + p.pages - page) upper
 

@@ -15,8 +15,8 @@ use Rattle.vm_kernel.specs.Callers.{KernelSeen, CallerSeen, IsCallerOf, caller_p
 use Rattle.vm_kernel.specs.Rooms.{AreRooms, callers_from}
 use Rattle.vm_kernel.specs.Turns.{MayCall, CallerGoesOn, IsCallDone, IsForCall, LacksMemory}
 use Rattle.vm_kernel.specs.declared.starting.Room.{Room}
-use Rattle.kernel_trials.specs.Workers.{IsTurnCall, IsWorking}
-use Rattle.kernel_trials.proofs.Working.{working-new, may-turn, working-done, works-lacking}
+use Rattle.test_threads.specs.Workers.{IsTurnCall, IsWorking}
+use Rattle.test_threads.proofs.Working.{working-new, may-turn, working-done, works-lacking}
 use Rattle.bench_kernel.specs.Calls.{AreFirstRooms, HasCalls, AllHaveCalls}
 
 -- AT THE START

@@ -7,7 +7,7 @@ use Rattle.vm_core.specs.vm_world.State.{KernelState}
 use Rattle.vm_core.specs.vm_world.StateFits.{StateFits}
 use Rattle.vm_kernel.specs.Callers.{KernelSeen, CallerSeen, IsCallerOf}
 use Rattle.vm_kernel.specs.declared.starting.Room.{Room}
-use Rattle.kernel_trials.specs.Workers.{IsWorking}
+use Rattle.test_threads.specs.Workers.{IsWorking}
 
 -- The rooms of so many processes, in their order, each with so many entries.
 pub record AreFirstRooms (n entries : ℕ) (rooms : List Room) : Type 0 where

@@ -2,7 +2,7 @@
 ghost use Rattle.std.specs.Prelude.{◌≡◌, ◌≤◌, ◌<◌, ◌+◌, ◌-◌, ◌^◌};
 ghost use Rattle.vm_core.specs.vm_types.WellFormed.{IsWellFormed};
 ghost use Rattle.bench_kernel.specs.Calls.{HasCalls, AllHaveCalls};
-ghost use Rattle.kernel_trials.specs.Workers.{IsTurnCall};
+ghost use Rattle.test_threads.specs.Workers.{IsTurnCall};
 
 use bitflags::Flags;
 use block_device::MemDisk;

@@ -3,8 +3,8 @@ ghost use Rattle.std.specs.Prelude.{◌≡◌, ◌<◌};
 
 use hat_layer::Hat;
 
-/// The numbers of a load: how many spaces, regions a space, pages a region, and pages from one region
-/// to the next.
+/// The numbers of a load: how many spaces, regions a space, pages a region, and pages from one
+/// region to the next.
 #[derive(Drop)]
 pub struct Load {
     pub spaces: u32,

@@ -1,16 +1,18 @@
 -- What contracts see of a disk, and what its two transfers do. Public clauses cite this.
-use Rattle.std.specs.Prelude.{ℕ, ◌≡◌, ◌<◌, Bool, true, List, [], length, slice_index, slice_index_or, slice_set, Option, option_map, IfSome, Result, OnOk, OnErr, if◌then◌else◌}
+use Rattle.std.specs.Prelude.{ℕ, ◌≡◌, ◌<◌, Bool, true, false, List, [], length, slice_index, slice_index_or, slice_set, Option, option_map, IfSome, Result, OnOk, OnErr, if◌then◌else◌}
 use Rattle.block_device.specs.Counts.{HasRisen, HasCause}
 
 -- What kind of disk it is: whether its count of faults is exact, which is that it rises by transfers that fail alone (that of a
--- mirror rises too where one of its disks fails and the other serves), and how many disks it is, of which it may stand for several.
+-- mirror rises too where one of its disks fails and the other serves); how many disks it is, of which it may stand for several;
+-- and whether it has each block on two disks.
 pub record DiskKind : Type 0 where
   pub exact : Bool
   pub members : ℕ
+  pub mirror : Bool
 
--- one disk, whose count is exact
+-- One disk, whose count is exact, and which has each block once.
 abbrev pub one_disk : DiskKind
-one_disk = record { exact = true; members = 1 }
+one_disk = record { exact = true; members = 1; mirror = false }
 
 -- The blocks where the disk tells them, how many blocks it has, its kind, how often a transfer failed, and how
 -- often one was asked for.

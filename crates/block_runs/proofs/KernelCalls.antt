@@ -1,5 +1,5 @@
 -- The kernel's calls, as blocks see them.
-use Rattle.std.proofs.Common.{◌≡◌, ℕ, suc, ◌==◌, ◌<◌, Bool, true, false, List, [], ◌∷◌, ◌++◌, length, Option, Some, None, refl, sym, ap, ◌∙◌, subst, cond, eq-eqb, append-nil, ⊎_elim, inl}
+use Rattle.std.proofs.Common.{◌≡◌, ℕ, suc, ◌==◌, ◌<◌, Bool, true, false, List, [], ◌∷◌, ◌++◌, length, Option, Some, None, refl, sym, ap, ◌∙◌, subst, cond, eq-eqb, append-nil, ⊎_elim, inl, arith}
 use Rattle.std.specs.Prelude.{MatchOption, IsTrue}
 use Rattle.std.specs.List.{AllByRecursion}
 use Rattle.std.proofs.lemmas.Bool.{cases_Bool, eqb-true}
@@ -18,7 +18,7 @@ use Rattle.vm_core.specs.vm_world.State.{seat_of, room_of}
 use Rattle.vm_kernel.specs.Callers.{KernelSeen, CallerSeen, IsCallerOf, ShowsOwn}
 use Rattle.vm_kernel.specs.Since.{seat_of_entry}
 use Rattle.vm_kernel.specs.Turns.{MayCall, IsForCall, CallerGoesOn, IsCallDone, LacksMemory, HasSeenMore}
-use Rattle.block_runs.specs.Callers.{tree, rooms, IsCaller, SeesMore, HasMade}
+use Rattle.block_runs.specs.Callers.{tree, rooms, IsCaller, IsClock, TurnsClock, SeesMore, HasMade}
 use Rattle.block_runs.specs.Conditions.{EndsLast}
 use Rattle.block_runs.proofs.Lasts.{own_each}
 use Rattle.block_runs.proofs.Lists.{each_append}
@@ -118,3 +118,8 @@ may_call kernel v c caller formed alive room ends bears = record {
   });
   hand = subst (IsForCall v.process c) (sym caller.free) tt;
 }
+
+-- A clock that makes no turn.
+pub turned-none : (k : KernelSeen) (c : CallerSeen) (turns : ℕ) → turns ≡ 0 → IsClock k c → TurnsClock k c turns c
+turned-none k c turns none clock =
+    subst (λ (n : ℕ). TurnsClock k c n c) (sym none) (record { clock = clock; number = refl; left = (0, omega arith, record { leaves = omega arith; emptied = omega arith; told = omega arith }); moves = refl })

@@ -1,16 +1,19 @@
 -- A caller between the calls of its process, and what a call makes of it. Public clauses cite this.
-use Rattle.std.specs.Prelude.{ℕ, suc, ◌≡◌, ◌++◌, List, [], ◌∷◌, None}
+use Rattle.std.specs.Prelude.{ℕ, suc, ◌≡◌, ◌≤◌, ◌++◌, List, [], ◌∷◌, None}
 use mathlib.Core.List.{IsPrefix}
 use Rattle.vm_script.specs.vm_types.declared.call.Call.{Call}
 use Rattle.vm_script.specs.vm_types.declared.call.Reply.{Reply}
 use Rattle.vm_script.specs.vm_types.declared.call.Entry.{Entry}
 use Rattle.vm_script.specs.flat_model.Told.{entries_of}
 use Rattle.vm_kernel.specs.Callers.{KernelSeen, CallerSeen, IsCallerOf}
+use Rattle.vm_kernel.specs.Tries.{AreMoves}
+use Rattle.vm_kernel.specs.Turns.{MovesHands}
 
 -- Each process's parent, and its most entries, by the set-up.
 abbrev pub tree : KernelSeen → List ℕ
 tree k = k.opening.parents
 
+-- The most entries of each process, by the set-up.
 abbrev pub rooms : KernelSeen → List ℕ
 rooms k = k.opening.entries
 
@@ -40,7 +43,9 @@ pub record IsClock (k : KernelSeen) (c : CallerSeen) : Type 0 where
   pub of : IsCallerOf k c
   pub free : c.seat.note ≡ None
 
--- It is one still, with the same number.
-pub record StaysClock (k : KernelSeen) (c d : CallerSeen) : Type 0 where
+-- It is one still, with the same number, and made so many moves of a hand, each with the push that it asked for.
+pub record TurnsClock (k : KernelSeen) (c : CallerSeen) (turns : ℕ) (d : CallerSeen) : Type 0 where
   pub clock : IsClock k d
   pub number : d.seat.number ≡ c.seat.number
+  pub left : (pushes : ℕ) × (pushes ≤ turns) × MovesHands c turns pushes d
+  pub moves : AreMoves k turns c.seat d.seat

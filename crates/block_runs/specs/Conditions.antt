@@ -51,6 +51,7 @@ pub record MayMakeLines (k : KernelSeen) (p : ℕ) (S : List Entry) (next : ℕ)
   pub ends : EndsLast p (entries_of S p)
   pub bears : (c : ℕ) → next ≤ c → IsFalse (list_any (is_birth c) (entries_of S p))
 
+-- The lines that are left may be made; of none nothing is asked.
 abbrev pub MayGo : KernelSeen → ℕ → List Entry → ℕ → List PlanLine → Type 0
 MayGo k p S next [] = Unit {0}
 MayGo k p S next (l ∷ left) = MayMakeLines k p S next (l ∷ left)

@@ -24,10 +24,12 @@ abbrev pub first_process : List PlanLine → ℕ
 first_process [] = 0
 first_process (l ∷ lines) = l.process
 
+-- The act ends a block.
 abbrev pub is_end : PlanAct → Bool
 is_end (act.Call call.Exit) = true
 is_end a = false
 
+-- 1 where it is true, else 0.
 abbrev pub one_if : Bool → ℕ
 one_if b = if b then 1 else 0
 
@@ -47,6 +49,7 @@ pub record ForksNext (parents : List ℕ) (p n m : ℕ) (rest : List PlanLine) (
   pub inside : IsProcessBlock parents n (n + 1) child next
   pub behind : IsProcessBlock parents p next others m
 
+-- What stands behind a line in its block: a fork's child, the block's end, or the next line.
 abbrev pub NextIs : List ℕ → ℕ → ℕ → ℕ → List PlanLine → PlanAct → Type 0
 NextIs parents p n m rest (act.Call (call.Fork c)) = ForksNext parents p n m rest c
 NextIs parents p n m rest (act.Call call.Exit) = (rest ≡ []) × (n ≡ m)
@@ -74,6 +77,7 @@ LineTakesMemory (act.Call call) = TakesMemory call
 LineTakesMemory (act.Named name call) = TakesMemory call
 LineTakesMemory a = ⊥
 
+-- What is to be done with a line: wait for children, fork, or make it.
 abbrev pub step_of : PlanAct → Step
 step_of act.Wait = step.Wait
 step_of (act.Call (call.Fork c)) = step.Fork

@@ -29,6 +29,7 @@ Agree seen vs = AllByRecursion (λ (v : CallerSeen). seen v.process ≡ v.seat.s
 abbrev pub IsFresh : CallerSeen → Type 0
 IsFresh v = v.seat.seen ≡ []
 
+-- None of these callers has seen an entry.
 abbrev pub AreFresh : List CallerSeen → Type 0
 AreFresh vs = AllByRecursion IsFresh vs
 
@@ -53,6 +54,7 @@ pub record IsOver (seen : ℕ → List Entry) (whole : Bool) (lines : List PlanL
 abbrev pub MayBeOver : (ℕ → List Entry) → Bool → List PlanLine → CallerSeen → Type 0
 MayBeOver seen whole lines v = IsFresh v ⊎ (IsOver seen whole lines v × (list_any (is_birth v.process) v.seat.seen ≡ true))
 
+-- Each of these blocks never began, or is over.
 abbrev pub AreOver : (ℕ → List Entry) → Bool → List PlanLine → List CallerSeen → Type 0
 AreOver seen whole lines vs = AllByRecursion (MayBeOver seen whole lines) vs
 
@@ -164,6 +166,7 @@ pub record HaveMet (k : KernelSeen) (whole : Bool) (v w : CallerSeen) (inside ot
   pub ends : StretchEnds k whole v w (inside ++ others) left old new next after
   pub child : (seen : ℕ → List Entry) → Agree seen ends.ran → IsPrefix (seen next) w.seat.seen × (list_any (is_birth next) (seen next) ≡ true)
 
+-- A stretch went on beside the blocks that were begun, both ended, and it met those it waits for.
 pub record BothEnd (k : KernelSeen) (s : Stretch) (v w : CallerSeen) (inside others : List PlanLine) (old new : List CallerSeen) (next : ℕ) : Type 0 where
   pub met : HaveMet k s.whole v w inside others (drop s.passed others) old new next s.next
   pub wait : s.whole ≡ true → EndsAtWait (drop s.passed others)

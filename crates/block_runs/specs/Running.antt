@@ -25,6 +25,7 @@ pub record HasRun (seen : ℕ → List Entry) (p : ℕ) (S : List Entry) (lines 
   pub children : (c : ℕ) → Forks lines c → IsPrefix (seen c) S
   pub bore : (c : ℕ) → list_any (is_birth c) (entries_of S p) ≡ true → IsPrefix (seen c) S × (list_any (is_birth c) (seen c) ≡ true)
 
+-- The line is no wait.
 abbrev pub IsNoWait : PlanLine → Type 0
 IsNoWait l = l.act ≡ act.Wait → ⊥
 

@@ -5,7 +5,7 @@ ghost use Rattle.vm_script.specs.flat_model.Births.{is_done};
 ghost use Rattle.vm_script.specs.vm_types.declared.call.Call.TheVariants.{Fork};
 ghost use Rattle.vm_kernel.specs.Callers.{KernelSeen, IsCallerOf};
 ghost use Rattle.vm_kernel.specs.Turns.{MayCall, CallerGoesOn, IsCallDone, LacksMemory, HasSeenMore, SeesBirth};
-ghost use Rattle.block_runs.specs.Callers.{IsClock, StaysClock};
+ghost use Rattle.block_runs.specs.Callers.{IsClock, TurnsClock};
 
 use std::alloc::AllocError;
 use std::sync::Wait;
@@ -68,7 +68,7 @@ pub trait Calls<D: Disk> {
     /// So many moves of a hand of the clock.
     fn pageout<R: Wait>(&self, rt: &R, caller: &mut Caller<D>, turns: u32)
         requires { IsClock (Self.kernel self.now) caller.old }
-        ensures { StaysClock (Self.kernel self.now) caller.old caller.new };
+        ensures { TurnsClock (Self.kernel self.now) caller.old turns caller.new };
 }
 
 impl<D: Disk> Calls<D> for VmKernel<D> {

@@ -1,6 +1,6 @@
 //! All blocks of a plan, with the pageout daemon beside them.
 ghost use denote.Param.Send.{IsSync, IsSend};
-ghost use Rattle.block_runs.specs.Callers.{IsClock, StaysClock};
+ghost use Rattle.block_runs.specs.Callers.{IsClock, TurnsClock};
 ghost use Rattle.block_runs.specs.Rows.{AreBlocksReady, AllEnd, IsBlockReady, BlockEnds};
 
 use crate::blocks::{both, run_block};
@@ -65,7 +65,7 @@ pub fn run_all<R: Threads + Wait + Sync, D: Disk + Send, K: Calls<D> + Sync>(
     requires blocks { AreBlocksReady (K.kernel kernel.now) lines.now row.old 1 }
     requires daemon { IsClock (K.kernel kernel.now) daemon.old }
     ensures blocks { AllEnd (K.kernel kernel.now) result lines.now row.old row.new }
-    ensures daemon { StaysClock (K.kernel kernel.now) daemon.old daemon.new }
+    ensures daemon { TurnsClock (K.kernel kernel.now) daemon.old turns daemon.new }
 {
     let stop = AtomicBool::new(false);
     let stop = &stop;
@@ -83,7 +83,8 @@ pub fn run_all<R: Threads + Wait + Sync, D: Disk + Send, K: Calls<D> + Sync>(
         &mut || -> ()
             requires { IsSend D.row × IsSync K.row × IsSync R.row
                 × IsClock (K.kernel kernel.now) daemon.now }
-            ensures { StaysClock (K.kernel kernel.entry.now) daemon.entry.now daemon.exit.now }
+            ensures { TurnsClock (K.kernel kernel.entry.now) daemon.entry.now turns
+                daemon.exit.now }
         { kernel.pageout(rt, daemon, turns) },
     );
     whole

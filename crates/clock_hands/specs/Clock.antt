@@ -50,6 +50,7 @@ pub record IsToPush (w : World) (frame : ℕ) (name : PageName) : Type 0 where
   pub modified : IsModified w.store w.hat.places frame
   pub disk : (d : DiskSeen) × (bay_at w.store.bays (world_table w name).disk ≡ home d)
 
+-- The plan is the push of the page that the back hand wants pushed.
 abbrev pub IsPushOf : World → ℕ → Plan → Type 0
 IsPushOf w frame (plan.Push name) = IsToPush w frame name
 IsPushOf w frame (plan.Read name) = ⊥
@@ -92,10 +93,11 @@ with_hand_moved w = record w { store = record w.store { clock = next_clock w.sto
 abbrev pub KeepsLoaded : World → World → Type 0
 KeepsLoaded old new = (place : ℕ) → IsSome (slice_index_or old.hat.places place None) → IsSome (slice_index_or new.hat.places place None)
 
--- The page in the frame is modified, or referenced, where it was.
+-- The page in the frame is modified where it was.
 abbrev pub SameModified : World → World → ℕ → Type 0
 SameModified old new frame = IsModified new.store new.hat.places frame ↔ IsModified old.store old.hat.places frame
 
+-- The page in the frame is referenced where it was.
 abbrev pub SameReferenced : World → World → ℕ → Type 0
 SameReferenced old new frame = IsReferenced new.store new.hat.places frame ↔ IsReferenced old.store old.hat.places frame
 
@@ -112,7 +114,8 @@ pub record IsReleased (old new : World) (frame : ℕ) : Type 0 where
   pub cached : new.store.cached ≡ old.store.cached ++ frame ∷ []
   pub unloaded : (place : ℕ) → frame_of (slice_index_or new.hat.places place None) ≢ Some frame
 
--- Any other stays as it was.
+-- The page in the frame is modified and referenced where it was; no translation is dropped, and the
+-- cache list stays.
 pub record IsLeft (old new : World) (frame : ℕ) : Type 0 where
   pub cached : new.store.cached ≡ old.store.cached
   pub modified : SameModified old new frame
@@ -126,6 +129,7 @@ pub record BackLooks (old new : World) (frame : ℕ) (answer : Option Plan) : Ty
   pub left : ¬ IsUnusedPage old frame → IsLeft old new frame
   pub push : (p : Plan) → (answer ≡ Some p) ↔ IsPushOf old frame p
 
+-- What a hand does at its frame: the front hand clears and answers no plan, the back hand looks.
 abbrev pub HandMoves : World → World → Pick → Option Plan → Type 0
 HandMoves old new (Front frame) answer = FrontClears old new frame × (answer ≡ None)
 HandMoves old new (Back frame) answer = BackLooks old new frame answer

@@ -1,7 +1,6 @@
 -- What clap's calls say of the command, and its getters of the words.
-use Rattle.std.proofs.Common.{◌≡◌, ◌∙◌, ◌&&◌, ◌⊎◌, inl, inr, ℕ, Bool, true, false, refl, sym, subst, ap, ap₂, List, [], ◌∷◌, codes, length, Option, Some, None, Result, Ok, Err, nat_lt, lt-ltb, ltb-true, true≢false}
+use Rattle.std.proofs.Common.{◌≡◌, ◌∙◌, ◌&&◌, ◌⊎◌, inl, inr, ℕ, Bool, true, false, refl, sym, subst, ap, List, [], ◌∷◌, codes, length, Option, Some, None, Result, Ok, Err, nat_lt, lt-ltb, ltb-true, true≢false}
 use Rattle.std.specs.List.{list_all}
-use Rattle.std.specs.Borrow.{Bor}
 use Rattle.std.specs.Char.{digit_value}
 use Rattle.std.specs.Option.{option_map_or, unwrap_or}
 use Rattle.std.specs.Prelude.{option_and_then}
@@ -13,37 +12,18 @@ use Rattle.clap.specs.Kinds.{IsAmong, Kinds}
 use Rattle.clap.specs.Matches.{ReadsOne, one_text}
 use Rattle.clap.specs.Simple.{App, is_simple, matches_of}
 use Rattle.clap.specs.Takes.{takes}
-use Rattle.clap.specs.Walk.{Row, Rule, Text, rows_of, rule_of}
-use Rattle.clap.specs.declared.builder.arg.Arg.{Arg}
-use Rattle.clap.specs.declared.builder.action.ArgAction.{ArgAction}
-use Rattle.clap.specs.declared.builder.texts.Texts.TheVariants.{One}
-use Rattle.clap.specs.declared.builder.value_parser.ValueParser.{ValueParser}
+use Rattle.clap.specs.Walk.{Row, Text, rows_of}
 use Rattle.clap.specs.declared.error.kind.ErrorKind.{ErrorKind}
 use Rattle.clap.specs.declared.parser.matches.Found.{Found}
 use Rattle.clap.proofs.WalkLemmas.{one_text-rows}
 use Rattle.command_line.specs.declared.options.Options.{Options}
-use Rattle.command_line.specs.Options.{flag_of_word, number_in_text, number_of_word, options_in, options_of, sunvm_command, unless_faulty}
+use Rattle.command_line.specs.declared.inquiry.Inquiry.TheVariants.{Help, Version}
+use Rattle.command_line.specs.declared.saying.Saying.{Saying}
+use Rattle.command_line.specs.declared.saying.Saying.TheVariants as says
+use Rattle.command_line.specs.Options.{flag_of_word, number_in_text, number_of_word, options_in, sunvm_command}
+use Rattle.command_line.specs.Sayings.{saying_in, saying_of, unless_faulty}
 
 -- ---- the command
-
--- an argument with a parser
-pub with_parser_is : (a b : Arg) (r : Rule) (q p : ValueParser) → b ≡ record a { value_parser = b.value_parser } → b.value_parser ≡ Some q → q ≡ p
-    → rule_of a ≡ r → rule_of b ≡ record r { parser = Some p }
-with_parser_is a b r q p is given converts rule =
-    ap rule_of is ∙ ap₂ (λ (s : Rule) (v : Option ValueParser). record s { parser = v }) rule (given ∙ ap Some converts)
-
--- an argument with a default
-pub with_default_is : (a b : Arg) (r : Rule) (v : Bor Text) → b ≡ record a { default_vals = One v } → rule_of a ≡ r
-    → rule_of b ≡ record r { defaults = v.now ∷ [] }
-with_default_is a b r v is rule = ap rule_of is ∙ ap (λ (s : Rule). record s { defaults = v.now ∷ [] }) rule
-
--- an argument with a long name
-pub with_long_is : (a b : Arg) (r : Rule) (s : Bor Text) → b ≡ record a { long = Some s } → rule_of a ≡ r → rule_of b ≡ record r { long = Some s.now }
-with_long_is a b r s is rule = ap rule_of is ∙ ap (λ (t : Rule). record t { long = Some s.now }) rule
-
--- an argument with an action
-pub with_action_is : (a b : Arg) (r : Rule) (act : ArgAction) → b ≡ record a { action = Some act } → rule_of a ≡ r → rule_of b ≡ record r { action = Some act }
-with_action_is a b r act is rule = ap rule_of is ∙ ap (λ (s : Rule). record s { action = Some act }) rule
 
 -- clap tells all of the command
 pub is_told : is_simple_and_free sunvm_command ≡ true
@@ -129,34 +109,45 @@ pub flag_found : (E : Type 0) (f : Found) (id : Text) (r : Option Bool)
     → unwrap_or r false ≡ flag_of_word id (rows_of f)
 flag_found E f id r none value = flag_read E (one_text f id) r none value ∙ ap (λ o. option_map_or is_true_text o false) (one_text-rows f id)
 
-pub same_options : (t u : Bool) (p q : ℕ) (m n : Option ℕ) (k l : Bool) → t ≡ u → p ≡ q → m ≡ n → k ≡ l
-    → ◌≡◌ {A = Options} (record { trace = t; pageout = p; make = m; check = k }) (record { trace = u; pageout = q; make = n; check = l })
-same_options t u p q m n k l a b c d = rw (a, b, c, d) refl
+pub same_options : (t u : Bool) (p q : ℕ) (m n : Option ℕ) (k l v w : Bool) → t ≡ u → p ≡ q → m ≡ n → k ≡ l → v ≡ w
+    → ◌≡◌ {A = Options} (record { trace = t; pageout = p; make = m; check = k; quiet = v }) (record { trace = u; pageout = q; make = n; check = l; quiet = w })
+same_options t u p q m n k l v w a b c d e = rw (a, b, c, d, e) refl
+
+-- ---- what they say
+
+pub said_help : (rows : List Row) → flag_of_word (codes "help") rows ≡ true → saying_in rows ≡ says.Inquiry Help
+said_help rows h = rw h refl
+
+pub said_version : (rows : List Row) → flag_of_word (codes "help") rows ≡ false → flag_of_word (codes "version") rows ≡ true → saying_in rows ≡ says.Inquiry Version
+said_version rows h v = rw (h, v) refl
+
+pub said_options : (rows : List Row) → flag_of_word (codes "help") rows ≡ false → flag_of_word (codes "version") rows ≡ false → saying_in rows ≡ says.Options (options_in rows)
+said_options rows h v = rw (h, v) refl
 
 -- ---- the parse
 
-unfaulty : (kinds : Kinds) (o : Options) → kinds ≡ [] → Some o ≡ unless_faulty kinds o
-unfaulty kinds o e = rw e refl
+unfaulty : (kinds : Kinds) (said : Saying) → kinds ≡ [] → Some said ≡ unless_faulty kinds said
+unfaulty kinds said e = rw e refl
 
-faulty : (k m : ErrorKind) (kinds : Kinds) (o : Options) → (k ≡ m → ⊥) → (k ≡ m) ⊎ IsAmong k kinds → None ≡ unless_faulty kinds o
-faulty k m [] o other h = elim h [ inl e ↦ absurd (other e) | inr e ↦ absurd e ]
-faulty k m (x ∷ xs) o other h = refl
+faulty : (k m : ErrorKind) (kinds : Kinds) (said : Saying) → (k ≡ m → ⊥) → (k ≡ m) ⊎ IsAmong k kinds → None ≡ unless_faulty kinds said
+faulty k m [] said other h = elim h [ inl e ↦ absurd (other e) | inr e ↦ absurd e ]
+faulty k m (x ∷ xs) said other h = refl
 
 -- an `Ok`
-pub words_taken : (a : App) (words : List Text) (rows : List Row) (o : Options) → a ≡ sunvm_command → (is_simple a ≡ true → rows ≡ matches_of a words)
-    → (is_simple_and_free a ≡ true → fault_of a words ≡ []) → o ≡ options_in rows → Some o ≡ options_of words
-unfolding options_of
-words_taken a words rows o e found none is =
+pub words_taken : (a : App) (words : List Text) (rows : List Row) (said : Saying) → a ≡ sunvm_command → (is_simple a ≡ true → rows ≡ matches_of a words)
+    → (is_simple_and_free a ≡ true → fault_of a words ≡ []) → said ≡ saying_in rows → Some said ≡ saying_of words
+unfolding saying_of
+words_taken a words rows said e found none is =
     let found_here : rows ≡ matches_of sunvm_command words = (subst (λ (x : App). is_simple x ≡ true → rows ≡ matches_of x words) e found) is_walked in
     let none_here : fault_of sunvm_command words ≡ [] = (subst (λ (x : App). is_simple_and_free x ≡ true → fault_of x words ≡ []) e none) is_told in
-    ap Some (is ∙ ap options_in found_here) ∙ unfaulty (fault_of sunvm_command words) (options_in (matches_of sunvm_command words)) none_here
+    ap Some (is ∙ ap saying_in found_here) ∙ unfaulty (fault_of sunvm_command words) (saying_in (matches_of sunvm_command words)) none_here
 
 -- an `Err` that isn't want of memory
 pub words_refused : (a : App) (words : List Text) (k m : ErrorKind) → a ≡ sunvm_command → (k ≡ m → ⊥)
-    → (is_simple_and_free a ≡ true → (k ≡ m) ⊎ IsAmong k (fault_of a words)) → None ≡ options_of words
-unfolding options_of
+    → (is_simple_and_free a ≡ true → (k ≡ m) ⊎ IsAmong k (fault_of a words)) → None ≡ saying_of words
+unfolding saying_of
 words_refused a words k m e other among =
-    faulty k m (fault_of sunvm_command words) (options_in (matches_of sunvm_command words)) other
+    faulty k m (fault_of sunvm_command words) (saying_in (matches_of sunvm_command words)) other
     ((subst (λ (x : App). is_simple_and_free x ≡ true → (k ≡ m) ⊎ IsAmong k (fault_of x words)) e among) is_told)
 
 pub words_not_taken : (a : App) (words : List Text) (k m : ErrorKind) → a ≡ sunvm_command → (k ≡ m → ⊥) → (takes a words ≡ true → k ≡ m)

@@ -1,1 +1,4 @@
+pub mod FileWords
+pub mod Inquiries
 pub mod Options
+pub mod Sayings

@@ -1,13 +1,12 @@
-//! The words of the command.
-ghost use Rattle.std.specs.Prelude.{◌≡◌, IfOk, None, false, map, string_bytes};
-ghost use Rattle.clap.specs.Words.{app_of, found_of, rows_of, takes};
-ghost use Rattle.command_line.specs.Options.{options_in, options_of, sunvm_command};
+//! The command and its options.
+ghost use Rattle.std.specs.Prelude.{◌≡◌, IfOk, false};
+ghost use Rattle.clap.specs.Words.{app_of, found_of, rows_of, rule_of};
+ghost use Rattle.command_line.specs.Options.{flag_rule, help_word_rule, make_rule, options_in, pageout_rule, sunvm_command};
 
-use clap::error::ErrorKind;
 use clap::{Arg, ArgAction, ArgMatches, Command, value_parser};
 use std::alloc::{AllocError, Global};
 
-/// What the words of the command say.
+/// What the words of the command say of a run.
 #[derive(Clone, Copy, Debug, PartialEq, Eq)]
 pub struct Options {
     /// Whether the report begins with a trace.
@@ -18,31 +17,64 @@ pub struct Options {
     pub make: Option<u32>,
     /// Whether the input is a trace that is checked; the other options then have no effect.
     pub check: bool,
+    /// Whether nothing is said on standard error.
+    pub quiet: bool,
+}
+
+// A flag without a value.
+fn flag<'a>(alloc: Global, name: &'a str) -> Arg<'a>
+    ensures rule { rule_of result ≡ flag_rule name.now }
+    ensures own { result.global ≡ false }
+{
+    Arg::new(alloc, name).long(name).action(ArgAction::SetTrue)
+}
+
+fn help_word<'a>(alloc: Global) -> Arg<'a>
+    ensures rule { rule_of result ≡ help_word_rule }
+    ensures own { result.global ≡ false }
+{
+    flag(alloc, "help").short('h')
+}
+
+fn pageout_word<'a>(alloc: Global) -> Arg<'a>
+    ensures rule { rule_of result ≡ pageout_rule }
+    ensures own { result.global ≡ false }
+{
+    Arg::new(alloc, "pageout")
+        .long("pageout")
+        .value_parser(value_parser!(u32).range(..=1_000_000))
+        .default_value("0")
+}
+
+fn make_word<'a>(alloc: Global) -> Arg<'a>
+    ensures rule { rule_of result ≡ make_rule }
+    ensures own { result.global ≡ false }
+{
+    Arg::new(alloc, "make")
+        .long("make")
+        .value_parser(value_parser!(u32))
 }
 
 // The command line.
-fn command<'a>(alloc: Global) -> Result<Command<'a>, AllocError>
+pub fn command<'a>(alloc: Global) -> Result<Command<'a>, AllocError>
     ensures { IfOk result (λ c. app_of c ≡ sunvm_command) }
 {
-    let trace = Arg::new(alloc, "trace")
-        .long("trace")
-        .action(ArgAction::SetTrue);
-    let pageout = Arg::new(alloc, "pageout")
-        .long("pageout")
-        .value_parser(value_parser!(u32).range(..=1_000_000))
-        .default_value("0");
-    let make = Arg::new(alloc, "make")
-        .long("make")
-        .value_parser(value_parser!(u32));
-    let check = Arg::new(alloc, "check")
-        .long("check")
-        .action(ArgAction::SetTrue);
-    let named = Command::new(alloc, "sunvm").no_binary_name(true);
-    named.arg(trace)?.arg(pageout)?.arg(make)?.arg(check)
+    let named = Command::new(alloc, "sunvm")
+        .no_binary_name(true)
+        .disable_help_flag(true);
+    let of_runs = named
+        .arg(flag(alloc, "trace"))?
+        .arg(pageout_word(alloc))?
+        .arg(make_word(alloc))?;
+    of_runs
+        .arg(flag(alloc, "check"))?
+        .arg(flag(alloc, "quiet"))?
+        .arg(help_word(alloc))?
+        .arg(flag(alloc, "version"))
 }
 
 // What was found in the words.
-fn options_in(matches: &ArgMatches<'_>) -> Options
+pub fn options_in(matches: &ArgMatches<'_>) -> Options
     ensures { result ≡ options_in (rows_of (found_of matches.now)) }
 {
     Options {
@@ -50,22 +82,6 @@ fn options_in(matches: &ArgMatches<'_>) -> Options
         pageout: matches.get_one::<u32>("pageout").unwrap_or(0),
         make: matches.get_one::<u32>("make"),
         check: matches.get_one::<bool>("check").unwrap_or(false),
-    }
-}
-
-/// What the words behind the program's name say; none where the command doesn't take them, also where they ask for help.
-///
-/// Takes memory for the parse. Time: that of the words' lengths.
-pub fn read_options(alloc: Global, words: &[String]) -> Result<Option<Options>, AllocError>
-    ensures means { IfOk result (λ options. options ≡ options_of (map string_bytes words.now)) }
-    ensures refuses { IfOk result (λ options. options ≡ None
-        → takes sunvm_command (map string_bytes words.now) ≡ false) }
-{
-    match command(alloc)?.try_get_matches_from(words) {
-        Ok(matches) => Ok(Some(options_in(&matches))),
-        Err(error) => match error.kind() {
-            ErrorKind::OutOfMemory => Err(AllocError),
-            _ => Ok(None),
-        },
+        quiet: matches.get_one::<bool>("quiet").unwrap_or(false),
     }
 }

@@ -1,7 +1,7 @@
 -- The bytes of a file, and what reading and writing at an offset do. Public clauses cite this.
 use Rattle.std.specs.Prelude.{ℕ, ◌≡◌, ◌+◌, ◌<◌, ◌≤◌, List, ◌++◌, length, take, drop, slice_index, Option, option_map, IfSome, Result, IfOk, OnErr}
 
--- Each is a number below 256.
+-- Each of these bytes is a number below 256.
 abbrev pub AreOctets : List ℕ → Type 0
 AreOctets bytes = (at : ℕ) → slice_index bytes at < 256
 

@@ -12,7 +12,7 @@ pub record FileDiskSeen : Type 0 where
   pub faults : ℕ
   pub calls : ℕ
 
--- Its content is the first blocks of the file, where the file tells.
+-- A disk over a file as a disk: its content is the first blocks of the file, where the file tells.
 abbrev pub file_disk_as_disk : FileDiskSeen → DiskSeen
 file_disk_as_disk d = record { content = option_map (blocks_of_file d.size) d.bytes; size = d.size; kind = one_disk; faults = d.faults; calls = d.calls }
 

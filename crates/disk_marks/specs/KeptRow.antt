@@ -23,15 +23,17 @@ abbrev pub HasCounts : Kind → ℕ → ℕ → Type 0
 HasCounts kind.Unsure before after = Unit {0}
 HasCounts k before after = (before ≡ 0) × (after ≡ 0)
 
--- the fields that stand for a row
+-- the fields that stand for a mark with the bit beside it
 abbrev pub fields_of : Mark → Bool → Inside
 fields_of (Held j) pushed = record { before = 0; after = 0; entries = j; kind = kind.Held; pushed = pushed }
 fields_of (Blank j) pushed = record { before = 0; after = 0; entries = j; kind = kind.Blank; pushed = pushed }
 fields_of (Unsure j before after) pushed = record { before = before; after = after; entries = j; kind = kind.Unsure; pushed = pushed }
 
+-- the fields that stand for a row
 abbrev pub row_fields : MarkRow → Inside
 row_fields row = fields_of row.mark row.pushed
 
+-- the fields made of a kept row are its own, where the counts are 0 if the mark names none
 pub row_fields-row_of : (r : Inside) → HasCounts r.kind r.before r.after → row_fields (row_of r) ≡ r
 row_fields-row_of r h = by_kind r.kind h
   where

@@ -6,22 +6,28 @@ use Rattle.block_device.specs.DiskSeen.{IsBlock, AreBlocks, HasBlocks}
 use Rattle.block_device.specs.Joins.{content_of_both}
 use Rattle.disk_mirror.specs.MirrorSeen.{is_fresh, mirror_block, mirror_blocks}
 
+-- A truth value is true or false.
 pub true_or_false : (b : Bool) → (b ≡ true) ⊎ (b ≡ false)
 true_or_false true = inl refl
 true_or_false false = inr refl
 
+-- A block that is fresh on the first disk is the first disk's.
 pub mirror_block-fresh : (fresh_a : List Bool) (first second : List (List ℕ)) (n : ℕ) → is_fresh fresh_a n ≡ true → mirror_block fresh_a first second n ≡ get_or first n []
 mirror_block-fresh fresh_a first second n fresh = ap (λ (b : Bool). get_or (if b then first else second) n []) fresh
 
+-- A block that isn't fresh on the first disk is the second disk's.
 pub mirror_block-stale : (fresh_a : List Bool) (first second : List (List ℕ)) (n : ℕ) → is_fresh fresh_a n ≡ false → mirror_block fresh_a first second n ≡ get_or second n []
 mirror_block-stale fresh_a first second n stale = ap (λ (b : Bool). get_or (if b then first else second) n []) stale
 
+-- A mirror has as many blocks as marks of its first disk.
 pub length-mirror_blocks : (fresh_a : List Bool) (first second : List (List ℕ)) → length (mirror_blocks fresh_a first second) ≡ length fresh_a
 length-mirror_blocks fresh_a first second = length-map-range_with_len (mirror_block fresh_a first second) 0 (length fresh_a)
 
+-- Among the blocks of a mirror each one stands at its number.
 pub get_or-mirror_blocks : (fresh_a : List Bool) (first second : List (List ℕ)) (n : ℕ) → n < length fresh_a → get_or (mirror_blocks fresh_a first second) n [] ≡ mirror_block fresh_a first second n
 get_or-mirror_blocks fresh_a first second n inside = get_or-map-range_with_len (mirror_block fresh_a first second) 0 (length fresh_a) n n [] inside (omega arith)
 
+-- All blocks of a mirror with a mark for each block are whole, where those of both its disks are.
 mirror_blocks-AreBlocks : (fresh_a : List Bool) (first second : List (List ℕ)) → length fresh_a ≡ length first → length fresh_a ≡ length second → AreBlocks first → AreBlocks second → AreBlocks (mirror_blocks fresh_a first second)
 mirror_blocks-AreBlocks fresh_a first second long_a long_b one other n inside =
     let within : n < length fresh_a = omega (arith, inside, length-mirror_blocks fresh_a first second) in

@@ -38,7 +38,7 @@ mirror_blocks fresh_a first second = map (mirror_block fresh_a first second) (ra
 
 -- What one disk fails to serve, the other serves, and the fault is counted: the count of a mirror isn't exact.
 abbrev pub kind_of_mirror : DiskKind → DiskKind → DiskKind
-kind_of_mirror first second = record { exact = false; members = first.members + second.members }
+kind_of_mirror first second = record { exact = false; members = first.members + second.members; mirror = true }
 
 -- A mirror has as many blocks as each of its disks, tells them where both disks tell theirs, and counts what
 -- both count.
@@ -51,7 +51,7 @@ mirror_disk fresh_a first second = record {
   calls = count_sum first.calls second.calls;
 }
 
--- the same of a mirror whose disks are seen so
+-- what is seen of a mirror, by what is seen of each of its disks
 abbrev pub mirror_seen : {D : Type 0} → (D → DiskSeen) → MirrorSeen D → DiskSeen
 mirror_seen seen m = mirror_disk m.fresh_a (seen m.a) (seen m.b)
 

@@ -7,6 +7,7 @@ use Rattle.block_device.specs.DiskSeen.{IsBlock, AreBlocks, HasBlocks}
 use Rattle.block_device.specs.Joins.{content_of_both}
 use Rattle.disk_stripe.specs.StripeSeen.{stripe_block, stripe_blocks}
 
+-- A number is even or odd.
 pub parity : (n : ℕ) → (n % 2 ≡ 0) ⊎ (n % 2 ≡ 1)
 parity n =
     elim (cases_eq (n % 2) 0) [
@@ -14,15 +15,19 @@ parity n =
       | inr odd ↦ inr (omega (arith, odd))
     ]
 
+-- A block of even number is the first disk's block of half the number.
 pub stripe_block-even : (first second : List (List ℕ)) (n : ℕ) → n % 2 ≡ 0 → stripe_block first second n ≡ get_or first (n / 2) []
 stripe_block-even first second n even = ap (λ k. get_or (if nat_eq k 0 then first else second) (n / 2) []) even
 
+-- A block of odd number is the second disk's block of half the number.
 pub stripe_block-odd : (first second : List (List ℕ)) (n : ℕ) → n % 2 ≡ 1 → stripe_block first second n ≡ get_or second (n / 2) []
 stripe_block-odd first second n odd = ap (λ k. get_or (if nat_eq k 0 then first else second) (n / 2) []) odd
 
+-- A stripe has as many blocks as its two disks together.
 pub length-stripe_blocks : (first second : List (List ℕ)) → length (stripe_blocks first second) ≡ length first + length second
 length-stripe_blocks first second = length-map-range_with_len (stripe_block first second) 0 (length first + length second)
 
+-- Among the blocks of a stripe each one stands at its number.
 pub get_or-stripe_blocks : (first second : List (List ℕ)) (n : ℕ) → n < length first + length second → get_or (stripe_blocks first second) n [] ≡ stripe_block first second n
 get_or-stripe_blocks first second n inside = get_or-map-range_with_len (stripe_block first second) 0 (length first + length second) n n [] inside (omega arith)
 
@@ -34,6 +39,7 @@ stripe_block-IsBlock first second n equal one other inside =
       | inr odd ↦ subst IsBlock (sym (stripe_block-odd first second n odd)) (other (n / 2) (omega (arith, odd, equal, inside)))
     ]
 
+-- All blocks of a stripe over disks of as many blocks are whole, where those of both disks are.
 pub stripe_blocks-AreBlocks : (first second : List (List ℕ)) → length first ≡ length second → AreBlocks first → AreBlocks second → AreBlocks (stripe_blocks first second)
 stripe_blocks-AreBlocks first second equal one other n inside =
     let within : n < length first + length second = omega (arith, inside, length-stripe_blocks first second) in

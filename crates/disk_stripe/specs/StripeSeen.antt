@@ -22,7 +22,7 @@ stripe_seen first second = record {
   calls = count_sum first.calls second.calls;
 }
 
--- the same of two disks that are seen so
+-- what is seen of a stripe over two disks, by what is seen of each disk
 abbrev pub stripe_seen_by : {D : Type 0} → (D → DiskSeen) → D × D → DiskSeen
 stripe_seen_by seen disks = stripe_seen (seen disks.0) (seen disks.1)
 

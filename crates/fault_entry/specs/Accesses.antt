@@ -52,7 +52,8 @@ pub record IsShown (m : Memory) (p q : ℕ) : Type 0 where
   pub shows : shown_name m.world.maps spot ≡ Some name
   pub home : residence m.world.store name ≡ Home translation.frame
 
--- After a load that answers a word and a store that is done, so it has.
+-- After a load that answers a word and a store that is done, the page has a translation, to the
+-- home frame of the page that its place shows.
 abbrev pub IsShownWhereDone : Memory → ℕ → ℕ → Attempt → Type 0
 IsShownWhereDone m p q (Done (reply.Word word)) = IsShown m p q
 IsShownWhereDone m p q (Done reply.Done) = IsShown m p q
@@ -84,7 +85,8 @@ MayBeAnswered m p call (Done reply) = IsPlainReply reply
 MayBeAnswered m p call (Need plan) = MayMeetFault m p call
 MayBeAnswered m p call (Busy h) = MayMeetFault m p call
 
--- All of these, of an access of a page.
+-- What is answered to an access of a page: what serves it, what may be answered, the translation,
+-- the slot that was made, and that it faulted once at most.
 pub record ServesWord (old new : Memory) (pending more p q : ℕ) (call : Call) (answer : Attempt) : Type 0 where
   pub serves : (calls : List (Option ℕ)) → Serves old new pending more calls p call answer
   pub due : MayBeAnswered new p call answer
@@ -96,6 +98,6 @@ pub record ServesWord (old new : Memory) (pending more p q : ℕ) (call : Call) 
 abbrev pub IsFitFor : {D : Type 0} → rust.World D → ℕ → List (Part Segment) → Type 0
 IsFitFor w p parts = (spaces : Spaces) × Fits w spaces × (finite.get spaces p ≡ Some parts)
 
--- Whatever the spaces in which it has them, this is answered to an access.
+-- This is answered to an access, whatever the spaces in which the process has these parts.
 abbrev pub WordServed : {D : Type 0} → rust.World D → rust.World D → ℕ → List (Part Segment) → ℕ → Call → Attempt → Type 0
 WordServed old new p parts q call answer = (spaces : Spaces) → Fits old spaces → finite.get spaces p ≡ Some parts → ServesWord (memory old spaces) (memory new spaces) old.pending new.pending p q call answer

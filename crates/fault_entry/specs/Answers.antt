@@ -7,6 +7,7 @@ use Rattle.seg_vn.specs.declared.attempt.Attempt.TheVariants as attempt
 use Rattle.fault_entry.specs.declared.answers.Answer.{Answer}
 use Rattle.fault_entry.specs.declared.answers.Answer.TheVariants.{Word, Stored, Signal, Need, Busy}
 
+-- The answer to a load or a store as one to any call.
 abbrev pub attempt_of : Answer → Attempt
 attempt_of (Word n) = attempt.Done (reply.Word n)
 attempt_of Stored = attempt.Done reply.Done

@@ -52,6 +52,8 @@ abbrev pub step_wanting : Wants → AccessStep
 step_wanting (Transfer plan) = Need plan
 step_wanting (Seat h) = Busy h
 
+-- What an access comes to: its frame, which it may use; the signal that is due; or what must come
+-- first, where no other signal than Past may be due.
 abbrev pub AccessMeans : Memory → Memory → ℕ → ℕ → ℕ → Bool → AccessStep → Type 0
 AccessMeans old new p a n write (Reached frame) = ReachesPage new p a n frame write
 AccessMeans old new p a n write (Refused s) = (born : set.FinSet nat_cmp) (notes : Notes) → access_target (flat_memory new born notes) p (may_access write) a n ≡ Err s
@@ -78,6 +80,7 @@ abbrev pub signal_in : AccessStep → Option Signal
 signal_in (Refused s) = Some s
 signal_in answer = None
 
+-- The error of a result, if it is one.
 abbrev pub error_in : {A E : Type 0} → Result A E → Option E
 error_in (Ok x) = None
 error_in (Err e) = Some e
@@ -110,7 +113,7 @@ pub record ServesAccess (old new : Memory) (pending more p a n : ℕ) (write : B
   pub hit : HitsReach old new.world p (page a) write answer
   pub means : AccessMeans old new p a n write answer
 
--- Whatever the spaces in which the process has these parts.
+-- What an access comes to, whatever the spaces in which the process has these parts.
 abbrev pub AccessServed : {D : Type 0} → rust.World D → rust.World D → ℕ → List (Part Segment) → ℕ → ℕ → Bool → AccessStep → Type 0
 AccessServed old new p parts a n write answer =
     (spaces : Spaces) → Fits old spaces → finite.get spaces p ≡ Some parts → ServesAccess (memory old spaces) (memory new spaces) old.pending new.pending p a n write answer

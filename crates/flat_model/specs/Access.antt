@@ -33,6 +33,7 @@ with_change_at f [] i = []
 with_change_at f (x ∷ xs) zero = f x ∷ xs
 with_change_at f (x ∷ xs) (suc i) = x ∷ with_change_at f xs i
 
+-- The file with another page at an index.
 abbrev pub file_with_page : ℕ → Page → File → File
 file_with_page i new file = record file { pages = slice_set file.pages i new }
 

@@ -11,10 +11,12 @@ use Rattle.flat_model.specs.Flat.{Flat, space_of}
 use Rattle.flat_model.specs.Step.{IsStep, step}
 use Rattle.flat_model.specs.History.{replay, Steps, IsBirth}
 
+-- The reply says that the call was done, and nothing else.
 abbrev pub is_done : Reply → Bool
 is_done Done = true
 is_done r = false
 
+-- The call is a Fork whose child is this process.
 abbrev pub is_fork_of : ℕ → Call → Bool
 is_fork_of p (Fork child) = child == p
 is_fork_of p call = false

@@ -24,6 +24,8 @@ pub record Quiet : Type 0 where
 abbrev pub open_after : ℕ → Option ℕ → Entry → Option ℕ
 open_after f holder e = if is_of_file f e then (if option_map_or (λ p. is_aside p e) holder false then holder else (if ends_call e.call e.reply then None else Some e.process)) else holder
 
+-- The process whose call of a file is between two parts after these entries, if there is one;
+-- before them it was the holder, if there was one.
 abbrev pub open_from : ℕ → Option ℕ → List Entry → Option ℕ
 open_from f holder [] = holder
 open_from f holder (e ∷ H) = open_from f (open_after f holder e) H

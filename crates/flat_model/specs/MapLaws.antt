@@ -15,5 +15,6 @@ pub record MapsRange (F : Flat) (p : ℕ) (r : Request) (first : ℕ) (G : Flat)
   pub backed : reserved G ≤ F.slots
   pub unmapped_again : cells_of (without_pages G p first (pages_in r.len)) p ≡ without_range (cells_of F p) first (pages_in r.len)
 
+-- The law of maps: each Map that isn't refused leaves what MapsRange says.
 pub record MapThenUnmap : Type 0 where
   pub maps : (F : Flat) (p : ℕ) (r : Request) (first : ℕ) (G : Flat) → map_result F p r ≡ Ok (first, G) → MapsRange F p r first G

@@ -34,10 +34,12 @@ pub record Request : Type 0 where
   pub object : Object
   pub offset : ℕ
 
+-- A place fits a length: an address that begins a valid range, or any where the length isn't 0.
 abbrev pub is_place : Place → ℕ → Bool
 is_place (At a) len = is_range a len
 is_place Any len = not (len == 0)
 
+-- The object is new zero memory.
 abbrev pub is_new_zero : Object → Bool
 is_new_zero object.NewZero = true
 is_new_zero o = false
@@ -50,9 +52,11 @@ is_valid r = is_place r.place r.len && (r.offset % page_size == 0) && (not (is_n
 abbrev pub is_there : Flat → Object → Bool
 is_there F o = is_new_zero o || is_some (pages_of F o)
 
+-- The protection that allows reads alone.
 abbrev pub prot_read : Prot
 prot_read = record { 0 = 1 }
 
+-- The protection that allows reads and writes.
 abbrev pub prot_read_write : Prot
 prot_read_write = record { 0 = 3 }
 

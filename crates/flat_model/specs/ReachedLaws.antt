@@ -15,7 +15,7 @@ pub record IsReached (F : Flat) : Type 0 where
   pub zeros : (z : ℕ) → is_some (map.get F.zeros z) ≡ is_named F z
   pub backed : reserved F ≤ F.slots
 
--- Flat memory is so as it is opened, and stays so step by step and over a whole history.
+-- Flat memory is as IsReached says when it is opened, and stays so over each step and each history.
 pub record StaysReached : Type 0 where
   pub opening : (slots : ℕ) (disks : map.FinMap nat_cmp ℕ) (files : List File) (roots : List ℕ) → IsReached (flat_at_opening slots disks files roots)
   pub after_step : (F : Flat) (e : Entry) → IsReached F → IsStep F e → IsReached (step F e)

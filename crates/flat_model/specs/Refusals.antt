@@ -6,12 +6,13 @@ use Rattle.vm_types.specs.declared.call.Reply.{Reply}
 use Rattle.vm_types.specs.declared.call.Reply.TheVariants as reply
 use Rattle.flat_model.specs.Flat.{Flat}
 
--- One test after another: the first refusal stands.
+-- A test, and then another of what the first gave; where the first refuses, its refusal stands.
 infixl 10 ◌>>=◌
 abbrev pub ◌>>=◌ : {A B E : Type 0} → Result A E → (A → Result B E) → Result B E
 (Ok x) >>= f = f x
 (Err e) >>= f = Err e
 
+-- One test after another, the second without what the first gave: the first refusal stands.
 infixl 10 ◌>>◌
 abbrev pub ◌>>◌ : {A B E : Type 0} → Result A E → Result B E → Result B E
 r >> s = r >>= λ _. s

@@ -23,9 +23,11 @@ blank_pages pages = replicate (length pages) zero_page
 abbrev pub blank_cell : Cell → Cell
 blank_cell c = record c { own = option_map (λ page. zero_page) c.own }
 
+-- The space with zeros in each page that a cell has of its own.
 abbrev pub blank_space : Space → Space
 blank_space space = map_with blank_cell space
 
+-- The file with as many pages, all of them zeros.
 abbrev pub blank_file : File → File
 blank_file file = record file { pages = blank_pages file.pages }
 

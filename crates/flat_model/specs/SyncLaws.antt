@@ -8,6 +8,8 @@ use Rattle.flat_model.specs.Births.{is_birth}
 abbrev pub is_in_life : ℕ → Entry → Bool
 is_in_life p e = (e.process == p) || is_birth p e
 
+-- The position behind the last of these entries that is in the process's life, the first of them
+-- standing at position k; b where there is none.
 abbrev pub start_from : ℕ → ℕ → ℕ → List Entry → ℕ
 start_from p k b [] = b
 start_from p k b (e ∷ H) = start_from p (k + 1) (if is_in_life p e then k + 1 else b) H

@@ -3,10 +3,11 @@ use Rattle.std.specs.Prelude.{ℕ, ◌≡◌, ◌+◌, ◌%◌, List, ◌++◌, 
 pub use Rattle.vm_types.specs.Pages.{page, pages_in, page_size}
 pub use Rattle.vm_types.specs.Words.{word_value, word_bytes, IsByte, IsWordSize, FitsWord}
 
--- A page is a list of 4096 bytes (`IsPage` says so of one).
+-- The bytes of a page, as a list.
 abbrev pub Page : Type 0
 Page = List ℕ
 
+-- The list is a page: it has 4096 elements, and each is a byte.
 pub record IsPage (p : Page) : Type 0 where
   pub whole : length p ≡ page_size
   pub bytes : All IsByte p

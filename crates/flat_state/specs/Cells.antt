@@ -20,9 +20,11 @@ use Rattle.flat_model.specs.Flat.{Cell, File, Space}
 abbrev pub pages_in_vec : Vec (Vec ℕ Global) Global → List Page
 pages_in_vec v = map (λ p. p.items) v.items
 
+-- The cell that a cell of the plain form stands for.
 abbrev pub flat_cell : CellState → Cell
 flat_cell c = record { prot = c.prot; max = c.max; kind = c.kind; object = c.object; index = c.index; own = c.own }
 
+-- The file that a file of the plain form stands for, with its extents and pages as lists.
 abbrev pub flat_file : FileState → File
 flat_file f = record { len = f.len; disk = f.disk; extents = f.extents.items; writable = f.writable; pages = pages_in_vec f.pages }
 

@@ -16,16 +16,19 @@ use Rattle.flat_model.specs.Words.{Page}
 use Rattle.flat_model.specs.Flat.{Cell, Space, File, Flat}
 use Rattle.flat_state.specs.PageCode.{page_code}
 
+-- A cell as data, field by field.
 abbrev pub cell_code : Coded Cell
 cell_code =
     code_by (Prot × (Prot × (Kind × (Object × (ℕ × Option Page))))) (coded× prot.the_row.coded (coded× prot.the_row.coded (coded× kind.the_row.coded (coded× object.the_row.coded (coded× coded_ℕ (coded_option page_code))))))
     (λ c. (c.prot, (c.max, (c.kind, (c.object, (c.index, c.own)))))) (λ p. record { prot = p.0; max = p.1.0; kind = p.1.1.0; object = p.1.1.1.0; index = p.1.1.1.1.0; own = p.1.1.1.1.1 }) (λ _. refl)
 
+-- A file as data, field by field.
 abbrev pub file_code : Coded File
 file_code =
     code_by (ℕ × (ℕ × (List Extent × (Bool × List Page)))) (coded× coded_ℕ (coded× coded_ℕ (coded× (coded_list extent.the_row.coded) (coded× coded_bool (coded_list page_code)))))
     (λ f. (f.len, (f.disk, (f.extents, (f.writable, f.pages))))) (λ p. record { len = p.0; disk = p.1.0; extents = p.1.1.0; writable = p.1.1.1.0; pages = p.1.1.1.1 }) (λ _. refl)
 
+-- Flat memory as data, field by field.
 abbrev pub flat_code : Coded Flat
 flat_code =
     code_by (ℕ × (map.FinMap nat_cmp ℕ × (List File × (map.FinMap nat_cmp (List Page) × (map.FinMap nat_cmp Space × set.FinSet nat_cmp)))))

@@ -16,6 +16,7 @@ use Rattle.flat_state.specs.declared.state.FlatParts.TheInside.{Inside}
 use Rattle.flat_model.specs.Flat.{File, Flat, Space, space_of}
 use Rattle.flat_state.specs.Cells.{flat_file, processes_in}
 
+-- The flat memory that the plain form stands for.
 abbrev pub flat_of : Inside → Flat
 flat_of s = record {
   slots = s.slots;

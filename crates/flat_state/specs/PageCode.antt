@@ -2,5 +2,6 @@
 use Rattle.std.specs.Coded.{Coded, coded_ℕ, coded_list}
 use Rattle.flat_model.specs.Words.{Page}
 
+-- A page as data: the list of its bytes.
 abbrev pub page_code : Coded Page
 page_code = coded_list coded_ℕ

@@ -8,6 +8,7 @@ places_from next n None = []
 places_from next zero (Some p) = []
 places_from next (suc n) (Some p) = p ∷ places_from next n (slice_index_or next p None)
 
+-- the places of each chain: those that the links lead over from its head
 abbrev pub order_of : List (Option ℕ) → List (Option ℕ) → List (List ℕ)
 order_of heads next = map (λ head. places_from next (length next) head) heads
 
@@ -27,15 +28,17 @@ abbrev pub before_in : Option ℕ → ℕ → List ℕ → Option ℕ
 before_in before place [] = None
 before_in before place (p ∷ ps) = if p == place then before else before_in (Some p) place ps
 
--- the links with that after a place led elsewhere, or the head of a chain
+-- the heads, that of a chain led elsewhere where no place stands before; else as they were
 abbrev pub heads_led : Option ℕ → List (Option ℕ) → ℕ → Option ℕ → List (Option ℕ)
 heads_led None heads chain to = slice_set heads chain to
 heads_led (Some p) heads chain to = heads
 
+-- the link that a walk begins at, led elsewhere where no place stands before; else as it was
 abbrev pub start_led : Option ℕ → Option ℕ → Option ℕ → Option ℕ
 start_led None from to = to
 start_led (Some p) from to = from
 
+-- the links, that after the place that stands before led elsewhere; with none before as they were
 abbrev pub next_led : Option ℕ → List (Option ℕ) → Option ℕ → List (Option ℕ)
 next_led None next to = next
 next_led (Some p) next to = slice_set next p to

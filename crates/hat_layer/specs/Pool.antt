@@ -51,6 +51,7 @@ abbrev pub frame_let : Bool → Option Translation → Option ℕ
 frame_let write None = None
 frame_let write (Some t) = if lets_access write t then Some t.frame else None
 
+-- the frame that an access to a page of a space goes to, where its translation lets it
 abbrev pub frame_for : List (Option Translation) → ℕ → ℕ → Bool → Option ℕ
 frame_for places space page write = frame_let write (translation_at places space page)
 
@@ -58,37 +59,43 @@ frame_for places space page write = frame_let write (translation_at places space
 abbrev pub after_access : Bool → Translation → Translation
 after_access write t = record { space = t.space; page = t.page; frame = t.frame; writable = t.writable; referenced = true; modified = t.modified || write }
 
+-- a translation that lets no store; its bits stay
 abbrev pub without_write : Translation → Translation
 without_write t = record { space = t.space; page = t.page; frame = t.frame; writable = false; referenced = t.referenced; modified = t.modified }
 
+-- a translation that is neither referenced nor modified
 abbrev pub with_clear_bits : Translation → Translation
 with_clear_bits t = record { space = t.space; page = t.page; frame = t.frame; writable = t.writable; referenced = false; modified = false }
 
--- the entry of one page changed, or dropped, and any other as it was
+-- the entry of one page changed, and any other as it was
 abbrev pub change_page : ℕ → ℕ → (Translation → Translation) → Option Translation → Option Translation
 change_page space page change o = if holds space page o then option_map change o else o
 
+-- the entry of one page dropped, and any other as it was
 abbrev pub drop_page : ℕ → ℕ → Option Translation → Option Translation
 drop_page space page o = if holds space page o then None else o
 
--- an entry that leads to a frame changed, or dropped, and any other as it was
+-- an entry that leads to a frame changed, and any other as it was
 abbrev pub change_lead : ℕ → (Translation → Translation) → Option Translation → Option Translation
 change_lead frame change o = if leads frame o then option_map change o else o
 
+-- an entry that leads to a frame dropped, and any other as it was
 abbrev pub drop_lead : ℕ → Option Translation → Option Translation
 drop_lead frame o = if leads frame o then None else o
 
--- the places with the translation of one page changed, or dropped
+-- the places with the translation of one page changed
 abbrev pub change_at : ℕ → ℕ → (Translation → Translation) → List (Option Translation) → List (Option Translation)
 change_at space page change places = map (λ o. change_page space page change o) places
 
+-- the places with the translation of one page dropped
 abbrev pub drop_at : ℕ → ℕ → List (Option Translation) → List (Option Translation)
 drop_at space page places = map (λ o. drop_page space page o) places
 
--- the places with all translations of a frame changed, or dropped
+-- the places with all translations of a frame changed
 abbrev pub change_frame : ℕ → (Translation → Translation) → List (Option Translation) → List (Option Translation)
 change_frame frame change places = map (λ o. change_lead frame change o) places
 
+-- the places with all translations of a frame dropped
 abbrev pub drop_frame : ℕ → List (Option Translation) → List (Option Translation)
 drop_frame frame places = map (λ o. drop_lead frame o) places
 
@@ -101,6 +108,7 @@ has_bit bit frame (Some t) = (t.frame == frame) && bit t
 abbrev pub bits_of : ℕ → List (Option Translation) → Bool × Bool
 bits_of frame places = (list_any (has_bit (λ t. t.referenced) frame) places, list_any (has_bit (λ t. t.modified) frame) places)
 
+-- each place holds a translation
 abbrev pub is_full : List (Option Translation) → Bool
 is_full places = list_all (λ o. is_some o) places
 

@@ -10,6 +10,7 @@ pub record Rows : Type 0 where
   pub places : List (Option Translation)
   pub frames : ℕ
 
+-- the slot of the page whose translation a place holds; none where the place is empty
 abbrev pub slot_at : ℕ → Option Translation → Option ℕ
 slot_at slots None = None
 slot_at slots (Some t) = Some (pair_slot slots t.space t.page)

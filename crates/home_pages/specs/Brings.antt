@@ -17,21 +17,25 @@ abbrev pub IsBrought : Memory → Memory → PageName → Result Unit Wants → 
 IsBrought old new name (Ok done) = (frame : ℕ) × (residence new.world.store name ≡ Home frame)
 IsBrought old new name (Err want) = FetchesPage new name want × ((frame : ℕ) → residence old.world.store name ≢ Home frame)
 
--- It is modified then where it is that of a slot which was never pushed, and no other page is that wasn't.
+-- Where the page came home, it alone becomes modified, if it is that of a slot which was never
+-- pushed.
 abbrev pub BringModifies : World → PageName → Result Unit Wants → PageName → Type 0
 BringModifies w name (Ok done) other = (other ≡ name) × IsUnpushedSlot w.anon other
 BringModifies w name (Err want) other = ⊥
 
+-- The page comes home, or this must come first; frames may be taken for other pages meanwhile, and
+-- no page becomes modified but the one that may.
 pub record BringsPage (old new : Memory) (pending more : ℕ) (name : PageName) (answer : Result Unit Wants) : Type 0 where
   pub first : TakesFrames old new.world pending more
   pub replaced : AreReplaced old.world new.world first.cut
   pub modified : ModifiesOnly (BringModifies new.world name answer) old.world new.world
   pub means : IsBrought old new name answer
 
--- The same of the world before and after; and whatever the spaces.
+-- How the page came home, or what must come first, by the world before and after, in these spaces.
 abbrev pub PageBrought : {D : Type 0} → rust.World D → rust.World D → Spaces → PageName → Result Unit Wants → Type 0
 PageBrought old new spaces name answer = BringsPage (memory old spaces) (memory new spaces) old.pending new.pending name answer
 
+-- How the page came home, or what must come first, whatever the spaces that the world fits.
 abbrev pub IsPageBrought : {D : Type 0} → rust.World D → rust.World D → PageName → Result Unit Wants → Type 0
 IsPageBrought old new name answer = (spaces : Spaces) → Fits old spaces → PageBrought old new spaces name answer
 

@@ -1,5 +1,5 @@
 -- What is seen of a disk that stands for one disk or for two. Public clauses cite this.
-use Rattle.std.specs.Prelude.{ℕ, ◌≡◌, ◌⊎◌, Bool, true, false, List, length, Option, Some, None, Result}
+use Rattle.std.specs.Prelude.{ℕ, ◌≡◌, Bool, true, false, List, length, Option, Some, None, Result}
 use Rattle.disk_stripe.specs.block_device.DiskSeen.{DiskSeen, Reads, Writes}
 use Rattle.disk_stripe.specs.StripeLook.{stripe_disks}
 use Rattle.disk_stripe.specs.StripeSeen.{ReadsOne, WritesOne, stripe_seen, stripe_seen_by}
@@ -51,7 +51,12 @@ pub record IsMirrorOf (a b disk : DiskSeen) : Type 0 where
   pub somewhere : HasFreshSide fresh_a fresh_b
   pub same : SameWhereFresh fresh_a fresh_b a.content b.content
 
--- A disk that stands for one disk or for two, as it is seen by what is seen of them: as that one, as a stripe, or as a mirror. Two have as many blocks.
+-- Two disks as one, a mirror or a stripe, as it is seen by what is seen of them.
+abbrev pub IsBoth : Bool → DiskSeen → DiskSeen → DiskSeen → Type 0
+IsBoth true a b disk = IsMirrorOf a b disk
+IsBoth false a b disk = disk ≡ stripe_seen a b
+
+-- A disk that stands for one disk or for two, as it is seen by what is seen of them: as that one, or by its kind as a mirror or a stripe. Two have as many blocks.
 abbrev pub IsSeenBy : DiskSeen → Option DiskSeen → DiskSeen → Type 0
 IsSeenBy a None disk = disk ≡ a
-IsSeenBy a (Some b) disk = (a.size ≡ b.size) × ((disk ≡ stripe_seen a b) ⊎ IsMirrorOf a b disk)
+IsSeenBy a (Some b) disk = (a.size ≡ b.size) × IsBoth disk.kind.mirror a b disk

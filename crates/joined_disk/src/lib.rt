@@ -2,5 +2,7 @@
 #![tactic(auto)]
 
 mod joined;
+mod laws;
 
 pub use joined::JoinedDisk;
+pub use laws::joined_blocks_law;

@@ -52,7 +52,7 @@ IsStored w name =
     clip (bytes_of_page w.files name) (page_on_disk w.files (disk_in (bay_at w.store.bays (disk_of_file w.files name.object))) name)
     ≡ clip (bytes_of_page w.files name) (page_value w no_notes name)
 
--- These pages of files are stored then, and those that were.
+-- Where the disks tell, each page of a file that was stored is stored, and so are these pages.
 abbrev pub StoresPages : World → World → (PageName → Type 0) → Type 0
 StoresPages old new these =
     AllTell old no_notes → (name : PageName) → IsFilePage old.files name → IsStored old name ⊎ these name → IsStored new name
@@ -70,10 +70,12 @@ pub record HasPageAndZeros (w : World) (name : PageName) (block : List ℕ) : Ty
 abbrev pub GoesOrStays : World → World → PageName → Type 0
 GoesOrStays old new name = HasPageAndZeros old name (block_on new name) ⊎ (block_on new name ≡ block_on old name)
 
--- So has that of each page of a file, these aside.
+-- The block of each page of a file, these aside, has the page then, with zeros after it, or what it
+-- had.
 abbrev pub GoOrStay : World → World → (PageName → Type 0) → Type 0
 GoOrStay old new spoiled = AllTell old no_notes → (name : PageName) → IsFilePage old.files name → spoiled name ⊎ GoesOrStays old new name
 
+-- Holds of no page.
 abbrev pub no_page : PageName → Type 0
 no_page name = ⊥
 
@@ -118,7 +120,8 @@ ZeroedOrStays files was now name =
     (IsTrue (is_blank (vnode_at files name.object) name.page) × (block_of now.content (block_of_page files name.object name.page) ≡ zeros))
     ⊎ (block_of now.content (block_of_page files name.object name.page) ≡ block_of was.content (block_of_page files name.object name.page))
 
--- So has that of each page of a file on these disks, these aside.
+-- The block of each page of a file on these disks, these pages aside, has zeros then, where the
+-- page was blank, or what it had.
 abbrev pub ZeroedOrStay : FilesSeen → List (ℕ × DiskSeen) → List (ℕ × DiskSeen) → (PageName → Type 0) → Type 0
 ZeroedOrStay files old new spoiled =
     (i : ℕ) (name : PageName) → i < length old → IsFilePage files name → disk_of_file files name.object ≡ (disk_at old i).0
@@ -149,12 +152,14 @@ IsWrittenOrKept w was now name =
     HasPageAndZeros w name (slice_index_or now (block_of_page w.files name.object name.page) [])
     ⊎ (slice_index_or now (block_of_page w.files name.object name.page) [] ≡ slice_index_or was (block_of_page w.files name.object name.page) [])
 
--- Of a disk that tells: each page of a file that lies there does so, unless it is spoiled.
+-- Of a disk that tells: the block of each page of a file that lies there has the page, with zeros
+-- after it, or what it had, unless the page is spoiled.
 abbrev pub WritesPages : World → Option DiskFault → ℕ → ℕ × DiskSeen → ℕ × DiskSeen → Type 0
 WritesPages w fault block was now =
     IfSome was.1.content (λ old. IfSome now.1.content (λ new. (name : PageName) → IsFilePage w.files name → disk_of_file w.files name.object ≡ was.0
     → IsSpoiled w.files fault block name ⊎ IsWrittenOrKept w old new name))
 
--- On all of these disks, by whether a transfer failed, and by the block that it was of.
+-- On all of these disks the block of each page of a file has the page or what it had, by whether a
+-- transfer failed, and by the block that it was of.
 abbrev pub WriteAllPages : World → List (ℕ × DiskSeen) → List (ℕ × DiskSeen) → Option DiskFault → Type 0
 WriteAllPages w old new fault = (block : ℕ) × ((i : ℕ) → i < length old → WritesPages w fault block (disk_at old i) (disk_at new i))

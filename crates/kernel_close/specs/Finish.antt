@@ -41,7 +41,7 @@ pub record IsFilePage (files : FilesSeen) (name : PageName) : Type 0 where
   pub file : name.object < length files.files
   pub below : name.page < pages_in (vnode_at files name.object).info.length
 
--- How many of its bytes lie before the file's end.
+-- How many bytes of a page lie before its file's end.
 abbrev pub bytes_of_page : FilesSeen → PageName → ℕ
 bytes_of_page files name = bytes_before (vnode_at files name.object).info.length name.page
 
@@ -55,7 +55,7 @@ abbrev pub HoldsFiles : World → ℕ × DiskSeen → Type 0
 HoldsFiles w disk = IfSome disk.1.content (λ blocks. (name : PageName) → IsFilePage w.files name → disk_of_file w.files name.object ≡ disk.0
     → HoldsPage w.files blocks name (page_value w no_notes name))
 
--- All of these disks do.
+-- Each of these disks, where it tells, has each page of each file that lies there.
 abbrev pub HoldAllFiles : World → List (ℕ × DiskSeen) → Type 0
 HoldAllFiles w disks = (i : ℕ) → i < length disks → HoldsFiles w (disk_at disks i)
 
@@ -69,13 +69,15 @@ HoldsOrKeeps w was now name =
 abbrev pub LiesIn : FilesSeen → ℕ → ℕ → PageName → Type 0
 LiesIn files disk block name = (disk_of_file files name.object ≡ disk) × (block_of_page files name.object name.page ≡ block)
 
--- Of a disk that tells: each page of a file that lies there does so, but for one that lies in the spoiled block of the spoiled disk.
+-- Of a disk that tells: the block of each page of a file there has the page, as far as its file
+-- goes, or what it had, but for the spoiled block of the spoiled disk.
 abbrev pub LeavesPages : World → ℕ → ℕ → ℕ × DiskSeen → ℕ × DiskSeen → Type 0
 LeavesPages w disk block was now =
     IfSome was.1.content (λ old. IfSome now.1.content (λ new. (name : PageName) → IsFilePage w.files name → disk_of_file w.files name.object ≡ was.0
     → LiesIn w.files disk block name ⊎ HoldsOrKeeps w old new name))
 
--- On all of these disks, but for one block of this disk.
+-- On all of these disks the block of each page of a file has the page or what it had, but for one
+-- block of this disk.
 abbrev pub LeaveAllPages : World → List (ℕ × DiskSeen) → List (ℕ × DiskSeen) → ℕ → Type 0
 LeaveAllPages w old new disk = (block : ℕ) × ((i : ℕ) → i < length old → LeavesPages w disk block (disk_at old i) (disk_at new i))
 
@@ -101,7 +103,8 @@ pub record KeepsDisk (files : FilesSeen) (old new : ℕ × DiskSeen) : Type 0 wh
   pub faults : old.1.faults ≤ new.1.faults
   pub blocks : KeepsOtherBlocks files old.0 old.1.content new.1.content
 
--- So does each disk, and they are in their order.
+-- Each disk has its number, its size, its kind and the blocks that are no page's of a file, and
+-- they are in their order.
 pub record KeepDisks (files : FilesSeen) (old new : List (ℕ × DiskSeen)) : Type 0 where
   pub count : length new ≡ length old
   pub each : (i : ℕ) → i < length old → KeepsDisk files (disk_at old i) (disk_at new i)

@@ -19,10 +19,11 @@ abbrev pub disk_by_number : List (ℕ × DiskSeen) → ℕ → Option DiskSeen
 disk_by_number [] number = None
 disk_by_number (disk ∷ more) number = if disk.0 == number then Some disk.1 else disk_by_number more number
 
--- What these disks have, by number, and how many faults they counted.
+-- What these disks have, by number.
 abbrev pub contents_by_number : List (ℕ × DiskSeen) → DiskContents
 contents_by_number disks number = option_and_then (λ (disk : DiskSeen). disk.content) (disk_by_number disks number)
 
+-- How many faults these disks counted, by number.
 abbrev pub faults_by_number : List (ℕ × DiskSeen) → ℕ → Option ℕ
 faults_by_number disks number = option_map (λ (disk : DiskSeen). disk.faults) (disk_by_number disks number)
 
@@ -34,7 +35,7 @@ IsRowLeft entries fault spoiled disk block was now =
     ⊎ (now ≡ record { mark = Held entries; pushed = true })
     ⊎ IsSomeAnd fault (λ f. (f.disk ≡ disk) × (spoiled ≡ block) × (now ≡ row_spoiled entries f.before f.after))
 
--- What is seen then: the history, these disks and the marks.
+-- What is seen of a kernel that was closed: its history, these disks and the marks.
 abbrev pub moment_left : KernelState → List (ℕ × DiskSeen) → MarksSeen → Moment
 moment_left s disks marks =
     record { history = s.history; contents = contents_by_number disks; faults = faults_by_number disks; marks = marks }

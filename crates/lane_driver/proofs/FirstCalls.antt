@@ -15,6 +15,13 @@ is-last n m is = elim (eqb_tells (n + 1) m) [
   | inr x ↦ absurd (let z : true ≡ false = sym is ∙ x.0 in cc)
 ]
 
+-- and the other way round
+pub at-last : (n m : ℕ) → suc n ≡ m → (n + 1 == m) ≡ true
+at-last n m is = elim (eqb_tells (n + 1) m) [
+  | inl y ↦ y.0
+  | inr x ↦ absurd (x.1 (omega (arith, is)))
+]
+
 -- the call at a place may be a lane's, and is the last where it is an Exit
 abbrev pub IsCallAt : List Call → ℕ → Call → Type 0
 IsCallAt calls k call = IsLaneCall call × (call ≡ Exit → suc k ≡ length calls)
@@ -38,3 +45,7 @@ all-calls calls n past first = record {
   where
     below : (k : ℕ) (call : Call) → slice_get calls k ≡ Some call → k < n
     below k call at = let lt = slice_get_within calls k call at in omega (arith, lt, past)
+
+-- where a call may not be a lane's at its place, the calls may not
+pub not-calls : (calls : List Call) (n : ℕ) (call : Call) → slice_get calls n ≡ Some call → AreLaneCalls calls → IsLaneCall call × (call ≡ Exit → (n + 1 == length calls) ≡ true)
+not-calls calls n call at all = (all.each n call at, λ exit. at-last n (length calls) (all.last n (subst (λ (c : Call). slice_get calls n ≡ Some c) exit at)))

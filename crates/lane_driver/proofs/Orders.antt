@@ -3,14 +3,14 @@ use Rattle.std.proofs.Common.{add-one, ◌≡◌, ◌≢◌, ℕ, suc, ◌+◌, 
 use Rattle.std.specs.Prelude.{slice_get, slice_set}
 use Rattle.std.proofs.lemmas.List.{length-set, set-get_or, take_all}
 use Rattle.std.proofs.Math.ListN.{get_or}
-use Rattle.std.proofs.lemmas.Option.{slice_get_within, slice_get-get_or, get_or_from_slice_get}
+use Rattle.std.proofs.lemmas.Option.{slice_get-get_or, get_or_from_slice_get}
 use Rattle.fault_entry.specs.flat_model.Flat.{Flat}
 use Rattle.fault_entry.specs.vm_world.State.{Fixed, KernelState, Seats}
 use Rattle.fault_entry.specs.vm_world.StateFits.{StateFits}
 use Rattle.vm_core.specs.Fits.{FitsAt}
 use Rattle.lane_driver.specs.Drives.{Drives, DrivesFront, StepsLane}
 use Rattle.lane_driver.specs.Lanes.{LaneSeen, HaveOwnSeats, MayMakeCalls, lane_sent, with_lanes}
-use Rattle.lane_driver.specs.LaneTurns.{TakesLaneTurn}
+use Rattle.lane_driver.specs.LaneTurns.{NextTakesMemory, TakesLaneTurn}
 use Rattle.lane_driver.proofs.Adds.{turn-adds}
 use Rattle.lane_driver.proofs.Driven.{drives-fits, drives-more, step-own, take-next}
 use Rattle.lane_driver.proofs.MayGo.{may-beside}
@@ -63,8 +63,11 @@ module _ (order : List ℕ) (i n : ℕ) (s u : KernelState) (lanes mid : List La
       let kept : slice_set mid n after ≡ mid = ap (slice_set mid n) (same ∙ sym (get_or_from_slice_get mid n lane lane there)) ∙ set-get_or mid n lane in
       subst (λ (ls : List LaneSeen). HaveGone (take i order) s t lanes ls) (sym kept) (subst (λ (x : KernelState). HaveGone (take i order) s x lanes mid) (sym state) gone)
 
-  pub gone-front : (t : KernelState) (new : List LaneSeen) → HaveGone (take i order) s t lanes new → DrivesFront order s t lanes new
-  gone-front t new g = (i, slice_get_within order i n at, g.drives)
+  pub gone-front : (t : KernelState) (after : LaneSeen) → t ≡ u → after ≡ lane → NextTakesMemory lane → DrivesFront order s t lanes (slice_set mid n after)
+  gone-front t after state same takes =
+      let kept : slice_set mid n after ≡ mid = ap (slice_set mid n) (same ∙ sym (get_or_from_slice_get mid n lane lane there)) ∙ set-get_or mid n lane in
+      subst (λ (ls : List LaneSeen). DrivesFront order s t lanes ls) (sym kept)
+      (record { turns = i; number = n; at = at; drives = subst (λ (x : KernelState). Drives (take i order) s x lanes mid) (sym state) gone.drives; lane = lane; there = there; takes = takes })
 
 -- a number of the order is a lane's
 pub within : (order : List ℕ) (i n m : ℕ) → ((k number : ℕ) → slice_get order k ≡ Some number → number < m) → n ≡ m → i < length order → get_or order i 0 < n

@@ -8,6 +8,7 @@ use Rattle.fault_entry.specs.seg_vn.declared.attempt.Attempt.{Attempt}
 use Rattle.fault_entry.specs.seg_vn.declared.attempt.Attempt.TheVariants.{Done, Need, Busy}
 use Rattle.fault_entry.specs.vm_world.Events.{IsEvent}
 use Rattle.fault_entry.specs.vm_world.State.{KernelState}
+use Rattle.vm_core.specs.Calls.{TakesMemory}
 use Rattle.vm_core.specs.SeatSteps.{LandsFlight, TriesNext}
 use Rattle.lane_driver.specs.Lanes.{LaneSeen, lane_sent, lane_after, next_call}
 
@@ -35,14 +36,22 @@ abbrev pub TurnsCall : KernelState → KernelState → ℕ → Call → Option F
 TurnsCall s t seat call (Some f) done out = LandsLaneFlight s t seat call f done × (out ≡ None)
 TurnsCall s t seat call None done out = TriesLaneCall s t seat call done out
 
--- By what the lane has out, and its next call: it makes and ends its transfer; or it tries the call; or, with no call left, it does nothing.
+-- The turn by what the lane has out, and its next call: it makes and ends its transfer; or it tries
+-- the call; or, with no call left, it does nothing.
 abbrev pub TurnsBy : Option FlightSeen → Option Call → KernelState → KernelState → LaneSeen → LaneSeen → Type 0
 TurnsBy (Some f) (Some call) s t lane new = (done : Bool) × LandsLaneFlight s t lane.seat call f done × (new ≡ lane_after lane done None)
 TurnsBy None (Some call) s t lane new = (done : Bool) × (flight : Option FlightSeen) × TriesLaneCall s t lane.seat call done flight × (new ≡ lane_after lane done flight)
 TurnsBy None None s t lane new = (t ≡ s) × (new ≡ lane)
 TurnsBy (Some f) None s t lane new = ⊥
 
--- THE TURN OF A LANE.
+-- THE TURN OF A LANE: by what it has out and its next call, and an event of its seat.
 pub record TakesLaneTurn (s t : KernelState) (lane new : LaneSeen) : Type 0 where
   pub turns : TurnsBy lane.flight (next_call lane) s t lane new
   pub event : IsEvent lane.seat s (lane_sent lane) t (lane_sent new)
+
+-- A lane with no transfer out whose next call takes memory.
+pub record NextTakesMemory (lane : LaneSeen) : Type 0 where
+  pub idle : lane.flight ≡ None
+  pub call : Call
+  pub next : next_call lane ≡ Some call
+  pub takes : TakesMemory call

@@ -21,10 +21,11 @@ pub record LaneSeen : Type 0 where
 abbrev pub lane_process : LaneSeen → ℕ
 lane_process lane = lane.seat + 1
 
--- The call that is next, and how many are left with it.
+-- The call of a lane that is next; none where all are done.
 abbrev pub next_call : LaneSeen → Option Call
 next_call lane = slice_get lane.calls lane.done
 
+-- How many calls of a lane are left, the next one among them.
 abbrev pub calls_left : LaneSeen → ℕ
 calls_left lane = length lane.calls - lane.done
 
@@ -44,19 +45,22 @@ pub record IsLaneCall (call : Call) : Type 0 where
   pub line : LiesInOneLine call
   pub plain : (child : ℕ) → call ≢ Fork child
 
--- The calls of a lane: each is such a one, and an Exit is the last.
+-- The calls of a lane: each is one that a lane may have, and an Exit is the last.
 pub record AreLaneCalls (calls : List Call) : Type 0 where
   pub each : (k : ℕ) (call : Call) → slice_get calls k ≡ Some call → IsLaneCall call
   pub last : (k : ℕ) → slice_get calls k ≡ Some Exit → suc k ≡ length calls
 
--- What a seat has outside the state with a transfer for a call of its process; and what a lane has: its transfer, for its next call.
+-- What a seat has outside the state with a transfer for a call of its process.
 abbrev pub sent_for : ℕ → Call → FlightSeen → Sent
 sent_for seat call f = record { note = note_of f; of = Some (seat + 1, call) }
 
+-- What a seat has outside with this transfer, if it has one, for its next call; none where no call
+-- is left.
 abbrev pub sent_by : ℕ → Option FlightSeen → Option Call → Option Sent
 sent_by seat flight None = None
 sent_by seat flight (Some call) = option_map (sent_for seat call) flight
 
+-- What a lane has outside: its transfer, for its next call.
 abbrev pub lane_sent : LaneSeen → Option Sent
 lane_sent lane = sent_by lane.seat lane.flight (next_call lane)
 

@@ -1,5 +1,5 @@
 //! Which calls a lane may have.
-ghost use Rattle.std.specs.Prelude.{◌≡◌, IsTrue, true};
+ghost use Rattle.std.specs.Prelude.{◌≡◌, ◌↔◌, IsTrue, true};
 ghost use Rattle.fault_entry.specs.vm_types.Pages.{line_rest};
 ghost use Rattle.fault_entry.specs.vm_types.declared.call.Call.TheVariants.{Exit};
 ghost use Rattle.lane_driver.specs.Lanes.{AreLaneCalls, IsLaneCall};
@@ -15,7 +15,7 @@ fn line_rest(offset: u32) -> u32
 
 /// Whether a lane may have this call.
 fn is_lane_call(call: &Call) -> bool
-    ensures { IsTrue result → IsLaneCall call.now }
+    ensures { IsTrue result ↔ IsLaneCall call.now }
 {
     let whole = match *call {
         Call::Read { offset, length, .. } => length <= line_rest(offset),
@@ -28,7 +28,7 @@ fn is_lane_call(call: &Call) -> bool
 
 // Whether a lane may have this call, last or not.
 fn is_lane_call_at(call: &Call, is_last: bool) -> bool
-    ensures { IsTrue result → IsLaneCall call.now × (call.now ≡ Exit → is_last ≡ true) }
+    ensures { IsTrue result ↔ (IsLaneCall call.now × (call.now ≡ Exit → is_last ≡ true)) }
 {
     is_lane_call(call) && (is_last || *call != Call::Exit)
 }
@@ -36,7 +36,7 @@ fn is_lane_call_at(call: &Call, is_last: bool) -> bool
 /// Whether these calls may be a lane's: each is well formed, none is a Fork, an Exit is the last, and a part of a read or a write lies
 /// inside one line with nothing of its call to follow. Time: their number.
 pub fn are_lane_calls(calls: &[Call]) -> bool
-    ensures { IsTrue result → AreLaneCalls calls.now }
+    ensures { IsTrue result ↔ AreLaneCalls calls.now }
 {
     for place in 0..calls.len() {
         if !is_lane_call_at(&calls[place], place + 1 == calls.len()) {

@@ -14,8 +14,8 @@ use vm_core::{Disk, VmState};
 /// The lanes take turns on one state, in the order of these numbers. A lane that has a transfer out makes and ends it; one that
 /// has none tries its next call, and begins the transfer that the call needs; one that is done does nothing.
 ///
-/// The error is want of memory, at a call that changes mappings, and the turns before it are done. Takes no memory but what such
-/// calls take.
+/// The error is want of memory, at the turn of a lane whose next call takes some, and the turns before it are done. Takes no memory
+/// but what such calls take.
 pub fn drive<D: Disk>(
     state: &mut VmState<D>,
     lanes: &mut [Lane<D>],
@@ -29,7 +29,7 @@ pub fn drive<D: Disk>(
         → number < length lanes.old }
     requires may { (k : ℕ) (lane : LaneSeen) → slice_get lanes.old k ≡ Some lane
         → MayMakeCalls state.old lane }
-    // The lanes of these numbers take their turns; for want of memory those of a front of them.
+    // The lanes of these numbers take their turns; for want of memory those of a front of them, up to a call that takes some.
     ensures turns { OnOk result (Drives order.now state.old state.new lanes.old lanes.new) }
     ensures err { OnErr result
         (DrivesFront order.now state.old state.new lanes.old lanes.new) }

@@ -2,7 +2,7 @@
 ghost use Rattle.std.specs.Prelude.{◌≡◌, ◌+◌, ◌<◌, ◌^◌, [], None, OnErr, OnOk, if◌then◌else◌, is_some, suc};
 ghost use Rattle.vm_core.specs.Fits.{FitsAt};
 ghost use Rattle.lane_driver.specs.Lanes.{AreLaneCalls, MayMakeCalls, lane_sent};
-ghost use Rattle.lane_driver.specs.LaneTurns.{TakesLaneTurn};
+ghost use Rattle.lane_driver.specs.LaneTurns.{NextTakesMemory, TakesLaneTurn};
 
 use crate::turn::turn;
 use std::alloc::AllocError;
@@ -81,6 +81,8 @@ impl<D: Disk> Lane<D> {
         requires may { MayMakeCalls state.old self.old }
         ensures turn { OnOk result (TakesLaneTurn state.old state.new self.old self.new) }
         ensures may { OnOk result (MayMakeCalls state.new self.new) }
+        // Want of memory comes at a call alone that takes some, and nothing changed then.
+        ensures takes { OnErr result (NextTakesMemory self.old) }
         ensures err { OnErr result ((state.new ≡ state.old) × (self.new ≡ self.old)) }
     {
         let Some(call) = self.calls.get(self.done) else {

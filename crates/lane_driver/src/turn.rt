@@ -2,6 +2,7 @@
 ghost use Rattle.std.specs.Prelude.{◌≡◌, ◌+◌, ◌<◌, ◌^◌, None, Some, IfOk, IfSome, OnErr, option_map};
 ghost use Rattle.fault_entry.specs.page_store.Flight.{fresh};
 ghost use Rattle.fault_entry.specs.vm_world.Events.{CanTry, IsEvent};
+ghost use Rattle.vm_core.specs.Calls.{TakesMemory};
 ghost use Rattle.vm_core.specs.Fits.{FitsAt};
 ghost use Rattle.lane_driver.specs.Lanes.{IsLaneCall, sent_for};
 ghost use Rattle.lane_driver.specs.LaneTurns.{LandsLaneFlight, TriesLaneCall, TurnsCall};
@@ -47,6 +48,7 @@ fn try_next<D: Disk>(
         (option_map (sent_for seat call.now) told.1)) }
     ensures fresh { IfOk result (λ told. IfSome told.1
         (λ f. (f.seat ≡ seat) × (f.outcome ≡ fresh))) }
+    ensures takes { OnErr result (TakesMemory call.now) }
     ensures err { OnErr result (state.new ≡ state.old) }
 {
     match state.try_call(seat, seat + 1, call)? {
@@ -78,6 +80,7 @@ pub(crate) fn turn<D: Disk>(
         (option_map (sent_for seat call.now) told.1)) }
     ensures fresh { IfOk result (λ told. IfSome told.1
         (λ f. (f.seat ≡ seat) × (f.outcome ≡ fresh))) }
+    ensures takes { OnErr result (TakesMemory call.now) }
     ensures err { OnErr result ((state.new ≡ state.old) × (flight ≡ None)) }
 {
     match flight {

@@ -14,7 +14,7 @@ pub record IsShortening (F : Flat) (e : Entry) (f : ℕ) (old : File) (len : ℕ
   pub was : slice_get F.files f ≡ Some old
   pub less : len < old.len
 
--- Such a step makes that file so long; and none other makes a file shorter.
+-- A Truncate that shortens makes its file so long; and no other step makes a file shorter.
 pub record CutsLaw : Type 0 where
   pub cuts : (F : Flat) (e : Entry) (f : ℕ) (old : File) (len : ℕ) → IsStep F e → IsShortening F e f old len
       → (c : CutsFile F e) × (c.f ≡ f) × (c.old ≡ old) × (c.new.len ≡ len)

@@ -33,7 +33,7 @@ pub record KeepsPageBlocks (file : File) : Type 0 where
   pub pages : length file.pages ≤ length (page_blocks file.extents)
   pub len : pages_in file.len ≤ length (page_blocks file.extents)
 
--- Each file does so.
+-- Each file keeps a block for each of its pages, and for each page that its length takes.
 abbrev pub HaveBlocks : Flat → Type 0
 HaveBlocks F = (f : ℕ) (file : File) → slice_get F.files f ≡ Some file → KeepsPageBlocks file
 
@@ -52,7 +52,7 @@ pub record StepFiles (F : Flat) (e : Entry) (G : Flat) : Type 0 where
   pub longer : (f : ℕ) (file : File) → slice_get F.files f ≡ Some file → IsFalse (is_cut_of f e.call) → IsSomeAnd (slice_get G.files f) (λ new. file.len ≤ new.len)
   pub fresh : (name : PageName) (disk block : ℕ) → disk_place F name ≡ None → disk_place G name ≡ Some (disk, block) → IsFreeBlock F disk block
 
--- Every step does so; and files that have blocks for their pages have them then.
+-- Every step leaves files as StepFiles says, and files with blocks for their pages have them then.
 pub record FilesStay : Type 0 where
   pub files : (F : Flat) (e : Entry) → StepFiles F e (step F e)
   pub kept : (F : Flat) (e : Entry) → HaveBlocks F → HaveBlocks (step F e)

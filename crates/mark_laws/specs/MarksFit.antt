@@ -64,6 +64,7 @@ pub record IsDropped (row : MarkRow) : Type 0 where
   pub unheld : (j : ℕ) → row.mark ≢ Held j
   pub unpushed : row.pushed ≡ false
 
+-- A note that writes a file's page sends the seat's push; with none, its row has nothing to spoil.
 abbrev pub SentFits : Flat → List Entry → MarkRow → Note → Option Pushing → Type 0
 SentFits opening H row note (Some push) = IsSentPage opening H note push
 SentFits opening H row note None = IsDropped row
@@ -103,5 +104,6 @@ pub record FailureFits (faults : ℕ → Option ℕ) (disk before after : ℕ) :
   pub counted : faults disk ≡ Some count
   pub enough : after ≤ count
 
+-- The counts that each Unsure mark names are of a failure that its disk counted.
 abbrev pub FailuresFit : (ℕ → Option ℕ) → MarksSeen → Type 0
 FailuresFit faults m = (disk block j before after : ℕ) → (mark_row m disk block).mark ≡ Unsure j before after → FailureFits faults disk before after

@@ -18,11 +18,11 @@ after_first opening H j = replay opening (take j H)
 abbrev pub file_page : Flat → PageName → Page
 file_page F name = unwrap_or (option_and_then (λ file. slice_get file.pages name.page) (slice_get F.files name.object)) []
 
--- How many of its bytes lie before the file's end.
+-- How many bytes of a page lie before its file's end.
 abbrev pub bytes_there : Flat → PageName → ℕ
 bytes_there F name = option_map_or (λ file. bytes_before file.len name.page) (slice_get F.files name.object) 0
 
--- The page up to the file's end, with zeros after it.
+-- The page of a file up to the file's end, with zeros after it.
 abbrev pub page_there : Flat → PageName → Page
 page_there F name = clip (bytes_there F name) (file_page F name)
 

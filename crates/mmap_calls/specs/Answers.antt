@@ -28,7 +28,8 @@ pub record AnswersAtOnce (p : ℕ) (old new : Memory) (call : Call) (r : Reply) 
   pub due : (born : set.FinSet nat_cmp) (notes : Notes) → (effect (flat_memory old born notes) p call).reply ≡ r
   pub modified : ModifiesNone old.world new.world
 
--- So it is whatever the spaces in which the process is alive with these parts; it is alive with the new ones then, and the list of zero objects is right.
+-- Whatever the spaces in which the process is alive with these parts, the call is done with this
+-- plain reply; the process is alive with the new ones then, and the list of zero objects is right.
 abbrev pub IsAnswered : {D : Type 0} → rust.World D → rust.World D → ℕ → List (Part Segment) → List (Part Segment) → Call → Reply → Type 0
 IsAnswered old new p parts after call r =
     (spaces : Spaces) → SpaceFits (world_seen old) old.zeros spaces p parts → AnswersAtOnce p (memory old spaces) (memory new (finite.insert spaces p after)) call r × KnowsZeros new.zeros (finite.insert spaces p after)
@@ -41,9 +42,10 @@ CountsFall old new = (slot : ℕ) → count_at new.anon slot ≤ count_at old.an
 abbrev pub NoneModified : {D : Type 0} → rust.World D → rust.World D → Type 0
 NoneModified old new = ModifiesNone (world_seen old) (world_seen new)
 
--- NOTHING CHANGES, neither the world nor the parts; or that a number of a zero object may be free.
+-- NOTHING CHANGES, neither the world nor the parts.
 abbrev pub IsUnchanged : {D : Type 0} → rust.World D → rust.World D → List (Part Segment) → List (Part Segment) → Type 0
 IsUnchanged old new parts after = (new ≡ old) × (after ≡ parts)
 
+-- Nothing changes but the length of the list of zero objects, by free numbers at its end.
 abbrev pub OnlyNumbers : {D : Type 0} → rust.World D → rust.World D → List (Part Segment) → List (Part Segment) → Type 0
 OnlyNumbers old new parts after = AreSameZeros old.zeros new.zeros × (new ≡ record old { zeros = new.zeros }) × (after ≡ parts)

@@ -16,7 +16,7 @@ ChangesMappings (Unmap addr len) = Unit {0}
 ChangesMappings (Protect addr len prot) = Unit {0}
 ChangesMappings call = ⊥
 
--- The mapping calls: these, and Sync.
+-- The mapping calls: Map, Unmap, Protect and Sync.
 abbrev pub IsMappingCall : Call → Type 0
 IsMappingCall (Sync addr len) = Unit {0}
 IsMappingCall call = ChangesMappings call

@@ -14,9 +14,10 @@ abbrev pub lets : Prot → Option Prot → Bool
 lets prot None = true
 lets prot (Some most) = is_within prot most
 
--- Each page of the range is mapped; and each may have the protection.
+-- Each page of the range is mapped.
 abbrev pub AreMapped : List (Part Segment) → ℕ → ℕ → Type 0
 AreMapped parts first end = (page : ℕ) → first ≤ page → page < end → IsSome (most_at parts page)
 
+-- Each page of the range may have the protection, where it is mapped.
 abbrev pub MayHave : List (Part Segment) → ℕ → ℕ → Prot → Type 0
 MayHave parts first end prot = (page : ℕ) → first ≤ page → page < end → lets prot (most_at parts page) ≡ true

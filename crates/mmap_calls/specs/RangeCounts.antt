@@ -16,7 +16,7 @@ NoneBelow parts from below = (p : Part Segment) → begins parts p.first ≡ Som
 abbrev pub pages_within : ℕ → ℕ → Part Segment → ℕ
 pages_within first end p = min (p.first + p.pages) end - max p.first first
 
--- How many slots these pages reserve: one each where they are private.
+-- How many slots the pages of a part in the range reserve: one each where they are private.
 abbrev pub slots_within : ℕ → ℕ → Part Segment → ℕ
 slots_within first end p = elim p.piece.kind [ Private ↦ pages_within first end p | Shared ↦ 0 ]
 
@@ -41,11 +41,11 @@ count_within first end z p = if lies_within first end p then (if is_number z (ze
 abbrev pub mapped_pages : List (Part Segment) → ℕ → ℕ → ℕ
 mapped_pages parts first end = sum_by (pages_within first end) parts
 
--- How many slots its pages reserve.
+-- How many slots the pages of the range reserve.
 abbrev pub slots_of_range : List (Part Segment) → ℕ → ℕ → ℕ
 slots_of_range parts first end = sum_by (slots_within first end) parts
 
--- How many parts that lie wholly in it show the zero object.
+-- How many parts that lie wholly in the range show the zero object.
 abbrev pub shown_within : List (Part Segment) → ℕ → ℕ → ℕ → ℕ
 shown_within parts first end z = sum_by (count_within first end z) parts
 

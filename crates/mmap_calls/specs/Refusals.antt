@@ -34,25 +34,27 @@ use Rattle.std.specs.FinSet as set
 use Rattle.seg_vn.specs.vm_types.declared.call.Errno.TheVariants as errno
 use Rattle.seg_vn.specs.vm_types.declared.call.Object.TheVariants as object
 
--- What such a Map asks for, and its call.
+-- What a Map at an address asks for.
 abbrev pub map_request : MapRequest → Request
 map_request m = record { place = At m.addr; len = m.length; prot = m.prot; kind = m.kind; object = m.object; offset = m.offset }
 
+-- The call of a Map at an address.
 abbrev pub map_call : MapRequest → Call
 map_call m = Map (At m.addr) m.length m.prot m.kind m.object m.offset
 
--- The same at the lowest gap, whatever the address.
+-- What a Map at the lowest gap asks for, whatever the address.
 abbrev pub any_request : MapRequest → Request
 any_request m = record { place = Any; len = m.length; prot = m.prot; kind = m.kind; object = m.object; offset = m.offset }
 
+-- The call of a Map at the lowest gap, whatever the address.
 abbrev pub map_any_call : MapRequest → Call
 map_any_call m = Map Any m.length m.prot m.kind m.object m.offset
 
--- The call that asks for it at a place, whatever the address.
+-- The call of a Map at a place, whatever the address.
 abbrev pub placed_call : Place → MapRequest → Call
 placed_call place m = Map place m.length m.prot m.kind m.object m.offset
 
--- Its numbers are below 2^32.
+-- The numbers of a Map are below 2^32.
 pub record IsMapRequest (m : MapRequest) : Type 0 where
   pub addr : IsNumber m.addr
   pub length : IsNumber m.length
@@ -97,6 +99,7 @@ pub record IsNewMapping (w : World) (zeros : List (Option ℕ)) (m : NewMapping)
   pub max : m.max ≡ most_allowed w m.request.kind m.request.object
   pub held : m.held ≡ map_of_object zeros m.request.object
 
+-- The request asks for what may be mapped in this world, and what is worked out from it is right.
 abbrev pub IsMappingOf : {D : Type 0} → rust.World D → NewMapping → Type 0
 IsMappingOf w m = IsNewMapping (world_seen w) w.zeros m
 
@@ -109,7 +112,8 @@ map_outcome F p m (Some e) = Err e
 abbrev pub IsMapRefusal : Memory → ℕ → MapRequest → Option Errno → Type 0
 IsMapRefusal memory p m refused = (born : set.FinSet nat_cmp) (notes : Notes) → map_result (flat_memory memory born notes) p (map_request m) ≡ map_outcome (flat_memory memory born notes) p m refused
 
--- The same in the world, whatever the spaces in which a process is alive with these parts.
+-- The refusal that is due to a Map in the world, if one is, whatever the spaces in which a process
+-- is alive with these parts.
 abbrev pub IsRefused : {D : Type 0} → rust.World D → List (Part Segment) → MapRequest → Option Errno → Type 0
 IsRefused w parts m refused = (spaces : Spaces) (p : ℕ) → SpaceFits (world_seen w) w.zeros spaces p parts → IsMapRefusal (memory w spaces) p m refused
 
@@ -117,7 +121,8 @@ IsRefused w parts m refused = (spaces : Spaces) (p : ℕ) → SpaceFits (world_s
 abbrev pub pages_after : List (Part Segment) → MapRequest → ℕ
 pages_after parts m = page_total parts - mapped_pages parts (page m.addr) (page m.addr + pages_in m.length) + pages_in m.length
 
--- How many slots are reserved with it: those of its range, and of the zero objects that its range alone shows, are given up.
+-- How many slots are reserved with the new mapping: those of its range, and of the zero objects
+-- that its range alone shows, are given up.
 abbrev pub reserved_after : World → List (Option ℕ) → List (Part Segment) → MapRequest → ℕ
 reserved_after w zeros parts m =
     w.anon.reserved - slots_of_range parts (page m.addr) (page m.addr + pages_in m.length) - given_up w.maps zeros parts (page m.addr) (page m.addr + pages_in m.length) m.object (length zeros) + slots_for_pages m.kind m.object (pages_in m.length)
@@ -132,7 +137,8 @@ refusal_of w zeros parts m =
     else if not (nat_le (reserved_after w zeros parts m) (length w.anon.counts)) then Some errno.NoSwap
     else None
 
--- Such a Map at the lowest gap is refused so, whatever the spaces in which a process is alive with these parts.
+-- A Map at the lowest gap is refused with this errno, whatever the spaces in which a process is
+-- alive with these parts.
 abbrev pub IsGapless : {D : Type 0} → rust.World D → List (Part Segment) → MapRequest → Errno → Type 0
 IsGapless w parts m e =
     (spaces : Spaces) (p : ℕ) → SpaceFits (world_seen w) w.zeros spaces p parts → (born : set.FinSet nat_cmp) (notes : Notes) → map_result (flat_memory (memory w spaces) born notes) p (any_request m) ≡ Err e

@@ -22,17 +22,21 @@ pub record IsAliveWith {D : Type 0} (w : rust.World D) (spaces : Spaces) (p : �
 abbrev pub AreClean : Memory → ℕ → ℕ → ℕ → Type 0
 AreClean m p first end = (q : ℕ) (x : Spot) (name : PageName) → first ≤ q → q < end → spot_at m.spaces p q ≡ Some x → SharesFilePage m.world x name → IsCleanPage m.world name
 
--- Or this page of the process shows one that isn't, and this must come first of it.
+-- A page of the process shows a page of a file that a Sync wants clean and that isn't, and this
+-- must come first of it.
 pub record WantsFirstAt (m : Memory) (p q : ℕ) (want : Wants) : Type 0 where
   pub spot : Spot
   pub here : spot_at m.spaces p q ≡ Some spot
   pub wants : WantsFirst m spot want
 
+-- The pages of files that shared mappings show in the range are clean; or this page of the range
+-- shows one that isn't, and this must come first of it.
 abbrev pub CleansRange : Memory → ℕ → ℕ → ℕ → Option (ℕ × Wants) → Type 0
 CleansRange m p first end None = AreClean m p first end
 CleansRange m p first end (Some r) = (first ≤ r.0) × (r.0 < end) × WantsFirstAt m p r.0 r.1
 
--- So it is whatever the process and the spaces in which it is alive with these parts.
+-- What a range comes to, as its pages are to be clean, whatever the process and the spaces in which
+-- it is alive with these parts.
 abbrev pub RangeCleaned : {D : Type 0} → rust.World D → rust.World D → List (Part Segment) → ℕ → ℕ → Option (ℕ × Wants) → Type 0
 RangeCleaned old new parts first end result = (spaces : Spaces) (p : ℕ) → IsAliveWith old spaces p parts → CleansRange (record { world = world_seen new; spaces = spaces }) p first end result
 

@@ -5,6 +5,7 @@ use Rattle.hash_chains.specs.Slots.{pair_slot}
 use Rattle.page_hash.specs.declared.PageName.{PageName}
 use Rattle.page_hash.specs.Names.{name_at, AreDistinct}
 
+-- the slot of the name that a frame holds; none where it holds no name
 abbrev pub slot_of : ℕ → Option PageName → Option ℕ
 slot_of slots None = None
 slot_of slots (Some name) = Some (pair_slot slots name.object name.page)

@@ -3,6 +3,7 @@ use Rattle.std.specs.Prelude.{◌≡◌}
 use Rattle.page_lists.specs.ListsSeen.{ListsSeen, AreApart}
 use Rattle.page_lists.specs.Ring.{QueueSeen, IsQueue}
 
+-- what callers see of two queues: their frames, and the order of each
 abbrev pub lists_of : QueueSeen → QueueSeen → ListsSeen
 lists_of free cached = record { frames = free.frames; free = free.order; cached = cached.order }
 

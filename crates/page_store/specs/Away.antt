@@ -18,12 +18,15 @@ is_disk missing = false
 is_disk (home disk) = true
 is_disk (out seat) = true
 
+-- How many frames of a store are away.
 abbrev pub frames_away : StoreSeen → ℕ
 frames_away s = length (filter is_none s.frames)
 
+-- How many disks of a store are out with seats.
 abbrev pub disks_out : StoreSeen → ℕ
 disks_out s = length (filter is_disk_out s.bays)
 
+-- How many disks a store has, home or out.
 abbrev pub disk_count : StoreSeen → ℕ
 disk_count s = length (filter is_disk s.bays)
 

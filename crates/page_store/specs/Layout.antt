@@ -55,6 +55,6 @@ pub record TableOfFiles (files : List FileBlocks) (slots : ℕ) (blank : PageNam
       → table_of files slots blank (record { object = 64; page = slot }) ≡ slot_place slot (blank (record { object = 64; page = slot }))
   pub apart : AreDisjoint files → IsApart (table_of files slots blank)
 
--- Every machine has such a table.
+-- Every machine has a table that is as TableOfFiles says.
 pub record LayoutLaw : Type 0 where
   pub table : (files : List FileBlocks) (slots : ℕ) (blank : PageName → Bool) → TableOfFiles files slots blank

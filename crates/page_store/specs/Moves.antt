@@ -72,6 +72,7 @@ is_only (Some frame) k = k == frame
 abbrev pub family : StoreSeen → ℕ → ℕ → Bool
 family s frame k = (k == frame) || (is_only (row_at s.rows frame).snapshot k || is_only (row_at s.rows frame).source k)
 
+-- the family of a frame; no frame where there is none
 abbrev pub family_of : StoreSeen → Option ℕ → ℕ → Bool
 family_of s None k = false
 family_of s (Some frame) k = family s frame k

@@ -16,11 +16,12 @@ rows_parted rows own copy modified = slice_set
     (slice_set rows copy (record (row_at rows copy) { source = None; gone = true }))
     own (record (row_at rows own) { snapshot = None; modified = modified })
 
--- the snapshot of a frame's page, where one is away, is gone
+-- this snapshot of a frame's page, where there is one, is gone
 abbrev pub rows_without : Option ℕ → List Row → ℕ → List Row
 rows_without None rows own = rows
 rows_without (Some copy) rows own = rows_parted rows own copy (row_at rows own).modified
 
+-- the snapshot of a frame's page, where one is away, is gone
 abbrev pub rows_forsaken : List Row → ℕ → List Row
 rows_forsaken rows own = rows_without (row_at rows own).snapshot rows own
 

@@ -98,16 +98,18 @@ pub record IsSoundStore (s : StoreSeen) : Type 0 where
   pub spare : (k : ℕ) → IsSome (bytes_at s.frames k) → name_at s.names k ≡ None → Contains s.free k
   pub whole : (number : ℕ) (d : DiskSeen) → bay_at s.bays number ≡ home d → HasBlocks d.content d.size
 
--- where a name is: with a home frame, with the seat that has its frame, or nowhere
+-- where the name is that a frame holds, by the frame's bytes and the seat that holds its lock
 abbrev pub residence_of : Option (List ℕ) → Option ℕ → ℕ → Residence
 residence_of (Some bytes) holder frame = Home frame
 residence_of None (Some seat) frame = Moving seat
 residence_of None None frame = Absent
 
+-- where the name is that this frame holds; absent where there is no frame
 abbrev pub residence_in : Option ℕ → StoreSeen → Residence
 residence_in None s = Absent
 residence_in (Some frame) s = residence_of (bytes_at s.frames frame) (row_at s.rows frame).holder frame
 
+-- where a name is: with a home frame, with the seat that has its frame, or nowhere
 abbrev pub residence : StoreSeen → PageName → Residence
 residence s name = residence_in (find s.names name) s
 

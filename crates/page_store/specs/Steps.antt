@@ -25,11 +25,12 @@ name_in names (Some frame) = name_at names frame
 abbrev pub next_name : StoreSeen → Option PageName
 next_name s = name_in s.names (next_frame s)
 
--- the free list and the cache list once the next frame was taken
+-- the free list once the next frame was taken
 abbrev pub rest_free : List ℕ → List ℕ
 rest_free [] = []
 rest_free (frame ∷ more) = more
 
+-- the cache list once the next frame was taken, which comes off it where no frame is free
 abbrev pub rest_cached : List ℕ → List ℕ → List ℕ
 rest_cached [] [] = []
 rest_cached [] (frame ∷ more) = more
@@ -58,11 +59,12 @@ with_piece s frame at from mark = record s {
   rows = if mark then slice_set s.rows frame (with_bits (row_at s.rows frame) (row_at s.rows frame).referenced true) else s.rows;
 }
 
--- the store after a call on the page of a name: nothing changes where no frame holds the name
+-- the store after a call on a frame; where there is no frame, nothing changes
 abbrev pub at_frame : Option ℕ → StoreSeen → (ℕ → StoreSeen) → StoreSeen
 at_frame None s after = s
 at_frame (Some frame) s after = after frame
 
+-- the store after a piece was written over the page of a name, where a frame holds the name
 abbrev pub after_poke : StoreSeen → PageName → ℕ → List ℕ → Bool → StoreSeen
 after_poke s name at from mark = at_frame (find s.names name) s (λ frame. with_piece s frame at from mark)
 
@@ -76,6 +78,7 @@ with_frame_filled s frame name bytes modified = record s {
   cached = rest_cached s.free s.cached;
 }
 
+-- the store after the next frame was taken for a name, with these bytes, where there is one
 abbrev pub after_fill : StoreSeen → PageName → List ℕ → Bool → StoreSeen
 after_fill s name bytes modified = at_frame (next_frame s) s (λ frame. with_frame_filled s frame name bytes modified)
 
@@ -164,6 +167,7 @@ with_flight_landed s f true = record s {
 abbrev pub with_pair_settled : StoreSeen → FlightSeen → StoreSeen
 with_pair_settled s f = record s { rows = rows_settled (row_at s.rows f.frame).source s.rows f.frame (is_dirty f.outcome) }
 
+-- the store after a flight came back, and the page that it is a snapshot of was parted from it
 abbrev pub after_end : StoreSeen → FlightSeen → StoreSeen
 after_end s f = with_flight_landed (with_pair_settled s f) f (is_lost f.writes f.outcome (row_at (with_pair_settled s f).rows f.frame).gone)
 

@@ -63,11 +63,12 @@ abbrev pub LivesAt : Plan → PlaceTable → ℕ → ℕ → ℕ → Type 0
 LivesAt (Read name) table disk block valid = table name ≡ record { disk = disk; block = block; valid = valid; blank = false }
 LivesAt (Push name) table disk block valid = ((table name).disk ≡ disk) × ((table name).block ≡ block)
 
--- whether the page that a frame has a snapshot of was written since that went out
+-- whether the page of this own frame, where there is one, was written since its snapshot went out
 abbrev pub is_rewritten_in : Option ℕ → StoreSeen → Bool
 is_rewritten_in None s = false
 is_rewritten_in (Some own) s = (row_at s.rows own).rewritten
 
+-- whether the page that a frame has a snapshot of was written since that went out
 abbrev pub was_rewritten : StoreSeen → ℕ → Bool
 was_rewritten s frame = is_rewritten_in (row_at s.rows frame).source s
 

@@ -16,6 +16,7 @@ abbrev pub content_in_note : Option Note → Option (List (List ℕ))
 content_in_note None = None
 content_in_note (Some note) = note.disk.content
 
+-- the content of a disk as its bay has it, or as the note of the seat that has it
 abbrev pub content_in_bay : BaySeen → Notes → Option (List (List ℕ))
 content_in_bay missing notes = None
 content_in_bay (home disk) notes = disk.content
@@ -43,10 +44,12 @@ abbrev pub bytes_moving : Option Note → List ℕ → List ℕ
 bytes_moving None otherwise = otherwise
 bytes_moving (Some note) otherwise = if note.writes then note.bytes else otherwise
 
+-- the value of the page that a frame holds: its bytes where it is home, else as its note has it
 abbrev pub frame_value : Option (List ℕ) → Option Note → List ℕ → List ℕ
 frame_value None it otherwise = bytes_moving it otherwise
 frame_value (Some bytes) it otherwise = bytes
 
+-- the value of a page that lives at this place, by the frame that holds it, if one does
 abbrev pub value_in : Option ℕ → StoreSeen → Notes → Place → List ℕ
 value_in None s notes place = backing_value s notes place
 value_in (Some frame) s notes place = frame_value (bytes_at s.frames frame) (note_of_holder (row_at s.rows frame).holder notes) (backing_value s notes place)

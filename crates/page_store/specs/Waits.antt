@@ -18,11 +18,12 @@ abbrev pub plan_page : Plan → PageName
 plan_page (Read name) = name
 plan_page (Push name) = name
 
--- the seat that holds the lock of a name's frame
+-- the seat that holds the lock of this frame, where there is one
 abbrev pub holder_in : Option ℕ → StoreSeen → Option ℕ
 holder_in None s = None
 holder_in (Some frame) s = (row_at s.rows frame).holder
 
+-- the seat that holds the lock of a name's frame
 abbrev pub holder_of : StoreSeen → PageName → Option ℕ
 holder_of s name = holder_in (find s.names name) s
 
@@ -41,7 +42,7 @@ pub record IsVictim (s : StoreSeen) (frame : ℕ) : Type 0 where
   pub unlocked : (row_at s.rows frame).holder ≡ None
   pub unkept : (row_at s.rows frame).keeps ≡ 0
 
--- Such a frame is chosen, and none exactly where there is none.
+-- The frame chosen is one that can be pushed or released, and none exactly where there is none.
 abbrev pub ChoosesFrame : StoreSeen → Option ℕ → Type 0
 ChoosesFrame s None = (frame : ℕ) → IsVictim s frame → ⊥
 ChoosesFrame s (Some frame) = IsVictim s frame

@@ -35,6 +35,7 @@ pub record IsNewRow (k : KernelSeen) (j n : ℕ) (front : List CallerSeen) (last
   pub fresh : AreFresh front
   pub count : length front ≡ n
   pub clock : IsClock k last
+  pub new : last ≡ record { seat = newcomer k (j + n); process = 0 }
   pub number : last.seat.number ≡ j + n
 
 length-callers : (k : KernelSeen) (j : ℕ) (es : List ℕ) → length (callers_from k j (rooms_from j es)) ≡ length es + 1
@@ -49,6 +50,7 @@ new-row k j [] [] last is =
       fresh = tt;
       count = refl;
       clock = subst (IsClock k) here (record { of = (refl, refl, refl); free = refl });
+      new = subst (λ (i : ℕ). last ≡ record { seat = newcomer k i; process = 0 }) (let z : j ≡ j + 0 = omega arith in z) (sym here);
       number = sym (ap (λ (c : CallerSeen). c.seat.number) here) ∙ (let z : j ≡ j + 0 = omega arith in z);
     }
 new-row k j [] (v ∷ vs) last is = absurd (let long = ap (λ (cs : List CallerSeen). length cs) is in let more = length-append vs (last ∷ []) in omega (arith, long, more))
@@ -70,6 +72,7 @@ new-row k j (e ∷ es) (v ∷ vs) last is =
       fresh = (sym (ap (λ (c : CallerSeen). c.seat.seen) here), rest.fresh);
       count = omega (arith, count);
       clock = rest.clock;
+      new = subst (λ (i : ℕ). last ≡ record { seat = newcomer k i; process = 0 }) (let z : suc j + length es ≡ j + length (e ∷ es) = omega arith in z) rest.new;
       number = omega (arith, number);
     }
 

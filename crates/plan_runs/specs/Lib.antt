@@ -1,2 +1,3 @@
+pub mod Daemon
 pub mod Lines
 pub mod Transfers

@@ -33,10 +33,11 @@ pub record AreBytesOf (files : List OpenedFile) (bytes : ℕ → List ℕ) : Typ
   pub lengths : (k : ℕ) (f : OpenedFile) → slice_get files k ≡ Some f → length (bytes k) ≡ f.info.length
   pub told : (k : ℕ) (f : OpenedFile) → slice_get files k ≡ Some f → bytes k ≡ f.bytes
 
--- The trace that is printed.
+-- The file of a trace that an opened file is.
 abbrev pub told_file : OpenedFile → TracedFile
 told_file f = record { name = f.info.name; writable = f.info.writable; disk = f.info.disk; extents = extent_pairs f.info.extents; bytes = f.bytes }
 
+-- The trace that is printed of a plan, disks of these sizes, opened files, and a history.
 abbrev pub told_trace : PlanSeen → List (ℕ × ℕ) → List OpenedFile → List Entry → Trace
 told_trace plan sizes files H = record {
   slots = (amounts_of plan.setup).slots;
@@ -46,7 +47,8 @@ told_trace plan sizes files H = record {
   history = H;
 }
 
--- The numbers of a reply that no flat memory knows are numbers of their types: where a Sync began, and what a device error names.
+-- The counts of a reply that no flat memory knows fit their types: where a Sync began, and what a
+-- device error names.
 abbrev pub HasToldCounts : Reply → Type 0
 HasToldCounts (reply.Synced from) = IsLongNumber from
 HasToldCounts (reply.Io disk before after) = IsNumber disk × IsLongNumber before × IsLongNumber after
@@ -62,14 +64,16 @@ pub record IsTracedRun (plan : PlanSeen) (holds : Spec → Option (List (List �
   pub few : length H < 2 ^ 32
   pub counts : All (λ e. HasToldCounts e.reply) H
 
--- What such a run prints stands for flat memory as its processes found it, and for its history.
+-- What a run that may be traced prints stands for flat memory as its processes found it, and for
+-- its history.
 abbrev pub PrintedStands : Type 0
 PrintedStands =
     (plan : PlanSeen) (holds : Spec → Option (List (List ℕ))) (files : List OpenedFile) (a : AttachedSeen) (made : FilesSeen) (H : List Entry) (bytes : ℕ → List ℕ)
     → IsTracedRun plan holds files a made H → AreBytesOf files bytes
     → IsTextFor (printed_text plan (disk_sizes a.disks) files bytes H) (opening_flat plan (disk_sizes a.disks) files) H
 
--- And the one answer to it is that it is legal, with as many entries.
+-- The one answer to the trace that a run prints is that it is legal, with as many entries as the
+-- history.
 abbrev pub PrintedIsLegal : Type 0
 PrintedIsLegal =
     (plan : PlanSeen) (holds : Spec → Option (List (List ℕ))) (files : List OpenedFile) (a : AttachedSeen) (made : FilesSeen) (H : List Entry) (bytes : ℕ → List ℕ)

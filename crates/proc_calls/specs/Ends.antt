@@ -5,12 +5,12 @@ use Rattle.seg_vn.specs.Serves.{IsPlainReply}
 use Rattle.seg_vn.specs.declared.attempt.Attempt.{Attempt}
 use Rattle.seg_vn.specs.declared.attempt.Attempt.TheVariants.{Done, Need, Busy}
 
--- An Exit; a Fork is served by none yet.
+-- The call is an Exit.
 abbrev pub IsServedExit : Call → Type 0
 IsServedExit Exit = Unit {0}
 IsServedExit call = ⊥
 
--- It is done, with a plain reply: it needs no transfer, and doesn't wait.
+-- An Exit is done, with a plain reply: it needs no transfer, and doesn't wait.
 abbrev pub IsExitDone : Attempt → Type 0
 IsExitDone (Done reply) = IsPlainReply reply
 IsExitDone (Need plan) = ⊥

@@ -21,12 +21,12 @@ abbrev pub BearsChild : Memory → Memory → ℕ → ℕ → Type 0
 BearsChild old new p child = (cleared : ℕ)
     → BringsProcess child old new (λ F. after_act F (fork_entry p child Done cleared)) (λ F G. IsDue F (fork_entry p child Done cleared) × (G ≡ after_act F (fork_entry p child Done cleared)))
 
--- It is done: its child is born, and no refusal was due, whatever is outside.
+-- A Fork is done: its child is born, and no refusal was due, whatever is outside.
 pub record DoesFork (old new : Memory) (p child : ℕ) : Type 0 where
   pub bears : BearsChild old new p child
   pub due : (born : set.FinSet nat_cmp) (notes : Notes) → (effect (flat_memory old born notes) p (Fork child)).reply ≡ Done
 
--- One that is refused changes nothing, and the refusal is due, whatever is outside.
+-- A Fork that is refused changes nothing, and the refusal is due, whatever is outside.
 pub record RefusesFork (old new : Memory) (p child : ℕ) : Type 0 where
   pub same : new ≡ old
   pub due : (born : set.FinSet nat_cmp) (notes : Notes) → (effect (flat_memory old born notes) p (Fork child)).reply ≡ Refused NoSwap
@@ -42,7 +42,7 @@ pub record CountsForked (old : Memory) (now : List ℕ) (p : ℕ) : Type 0 where
   pub slots : length now ≡ length old.world.anon.counts
   pub counts : (slot : ℕ) → slice_index now slot ≡ slice_index old.world.anon.counts slot + times_owned old p slot
 
--- So it is where the Fork is done; else no count changes.
+-- The slots of the process are counted once more where its Fork is done; else no count changes.
 abbrev pub IsCountedFork : Memory → List ℕ → ℕ → Reply → Type 0
 IsCountedFork old counts p Done = CountsForked old counts p
 IsCountedFork old counts p reply = counts ≡ old.world.anon.counts

@@ -52,6 +52,8 @@ AreRoomsFor (room ∷ rooms) [] = ⊥
 abbrev pub HasFewHolders : List (Option Map) → ℕ → Part Segment → Type 0
 HasFewHolders maps more x = (number : ℕ) → x.piece.shown ≡ Some number → IsMapThere maps number × (holders_of maps number + more < 2 ^ 32)
 
+-- The maps of the zero objects that these parts show are there, and of each so many holders more
+-- can be counted.
 abbrev pub AreFewHolders : List (Option Map) → ℕ → List (Part Segment) → Type 0
 AreFewHolders maps more parts = All (HasFewHolders maps more) parts
 
@@ -62,11 +64,13 @@ pub record IsForking (w : World) (zeros : List (Option ℕ)) (spaces : Spaces) (
   pub memory : MemoryFits (record { world = w; spaces = finite.insert spaces child kids })
   pub known : KnowsZeros zeros (finite.insert spaces child kids)
 
--- So it is in some spaces, for some other process.
+-- In some spaces, for some other process whose space is being filled, memory fits and the list of
+-- zero objects is right.
 abbrev pub MayBeForking : {D : Type 0} → rust.World D → ℕ → List (Part Segment) → List (Part Segment) → Type 0
 MayBeForking w p parts kids = (spaces : Spaces) × (child : ℕ) × IsForking (world_seen w) w.zeros spaces p child parts kids
 
--- In whatever spaces, for whatever process that is being filled: it has all cells of the process then, and nothing else changes in flat memory.
+-- Whatever the spaces and the process whose space is being filled, it has all cells of the other
+-- one then, and nothing else changes in flat memory.
 abbrev pub CopiesParts : {D : Type 0} → rust.World D → rust.World D → ℕ → List (Part Segment) → List (Part Segment) → List (Part Segment) → Type 0
 CopiesParts old new p parts kids final =
     (end : ℕ) × ((q : ℕ) → end ≤ q → part_at parts q ≡ None)

@@ -11,6 +11,8 @@ use Rattle.run_endings.specs.declared.ending.TraceAnswer.{TraceAnswer}
 use Rattle.run_endings.specs.declared.ending.TraceAnswer.TheVariants as answer
 use Rattle.run_endings.specs.declared.ending.TraceEnd.{TraceEnd}
 use Rattle.run_endings.specs.declared.ending.TraceEnd.TheVariants as ends
+use Rattle.run_endings.specs.declared.inquiry_end.InquiryEnd.{InquiryEnd}
+use Rattle.run_endings.specs.declared.inquiry_end.InquiryEnd.TheVariants as inquired
 use Rattle.run_endings.specs.declared.ending.Ending.{Ending}
 use Rattle.run_endings.specs.declared.ending.Ending.TheVariants as ending
 use Rattle.run_endings.specs.declared.fault.RunFault.{RunFault}
@@ -22,19 +24,26 @@ ending_of halt.Memory = ending.Memory
 ending_of (halt.Refused r) = ending.Refused r
 ending_of (halt.Failed f) = ending.Opening f
 
--- The whole report, or want of memory.
+-- A run ends with its whole report, or for want of memory: nothing failed.
 abbrev pub IsQuiet : Ending → Type 0
 IsQuiet ending.Whole = Unit {0}
 IsQuiet ending.Memory = Unit {0}
 IsQuiet how = ⊥
 
--- The status of a check: 0 and 9 tell a verdict.
+-- The status of a check: 0 and 9 tell a verdict, 3 a bad line or a trace that is too long, 6 a sink
+-- that failed.
 abbrev pub trace_status : TraceEnd → ℕ
 trace_status (ends.Told (answer.Verdict (verdict.Legal n))) = 0
 trace_status (ends.Told (answer.Verdict (verdict.First k))) = 9
 trace_status (ends.Told (answer.Fault f)) = 3
 trace_status (ends.Told answer.Long) = 3
 trace_status ends.Sink = 6
+
+-- The status with which a run ends.
+-- The status of an inquiry about the program itself: 0 where its text was told.
+abbrev pub inquiry_status : InquiryEnd → ℕ
+inquiry_status (inquired.Told q) = 0
+inquiry_status (inquired.Sink q) = 6
 
 abbrev pub status_of : Ending → ℕ
 status_of ending.Whole = 0
@@ -49,7 +58,9 @@ status_of (ending.Closing f) = 7
 status_of (ending.Showing f) = 7
 status_of ending.Memory = 8
 status_of (ending.Checked t) = trace_status t
+status_of (ending.Informed t) = inquiry_status t
 
+-- The fault of a device that ended a run, if one did.
 abbrev pub fault_of : Ending → Option RunFault
 fault_of (ending.Opening f) = Some (fault.Opening f)
 fault_of (ending.Closing f) = Some (fault.Closing f)
@@ -63,6 +74,7 @@ answer_text (answer.Verdict (verdict.First k)) = codes "trace: entry " ++ decima
 answer_text (answer.Fault f) = codes "trace: line " ++ decimal f.line ++ 10 ∷ []
 answer_text answer.Long = codes "trace: long" ++ 10 ∷ []
 
+-- The line of a refusal: of a set-up rule, or of a rule of volumes and the disk.
 abbrev pub refusal_line : Refusal → List ℕ
 refusal_line (refusal.Rule n) = setup_fault_text n
 refusal_line (refusal.Volume disk rule) = volume_fault_text disk rule

@@ -6,8 +6,8 @@ use Rattle.run_endings.specs.declared.ending.Ending.TheVariants as ending
 use Rattle.run_endings.specs.Ending.{last_line_of}
 use Rattle.volume_files.specs.stored_files.Texts.{WroteOn}
 
--- The last line of a run was printed, as far as the sink took it, and the run ends so; without a line no fault is counted; or memory lacked for the line, and the
--- sink wasn't called.
+-- The last line was printed as far as the sink took it, and the run ends as it was to, without a
+-- line no fault counted; or memory lacked for the line, and the sink wasn't called.
 abbrev pub IsConcluded : Ending → SinkSeen → SinkSeen → Ending → Type 0
 IsConcluded was old new how =
     ((how ≡ was) × WroteOn old new [] (last_line_of was) × (last_line_of was ≡ [] → new.faults ≡ old.faults))

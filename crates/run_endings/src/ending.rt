@@ -3,6 +3,7 @@ ghost use Rattle.std.specs.Prelude.{◌≡◌};
 ghost use Rattle.run_endings.specs.Ending.{status_of, fault_of, trace_status};
 
 use crate::fault::RunFault;
+use crate::inquiry_end::InquiryEnd;
 use trace_check::{TraceFault, Verdict};
 use volume_files::{DiskFault, OpenFault, Refusal, ScriptFault};
 
@@ -53,6 +54,8 @@ pub enum Ending {
     Memory,
     /// A trace was checked in place of a script.
     Checked(TraceEnd),
+    /// The program was asked about itself.
+    Informed(InquiryEnd),
 }
 
 // The status of a check.
@@ -82,6 +85,7 @@ impl Ending {
             Ending::Opening(_) | Ending::Closing(_) | Ending::Showing(_) => 7,
             Ending::Memory => 8,
             Ending::Checked(end) => trace_status(end),
+            Ending::Informed(end) => end.status(),
         }
     }
 

@@ -3,8 +3,10 @@
 
 mod ending;
 mod fault;
+mod inquiry_end;
 mod last_line;
 
 pub use ending::{Ending, TraceAnswer, TraceEnd};
 pub use fault::RunFault;
+pub use inquiry_end::InquiryEnd;
 pub use last_line::tell_ending;

@@ -6,7 +6,9 @@ use Rattle.volume_files.specs.vm_script.Plans.{plan_of}
 use Rattle.volume_files.specs.vm_script.Rules.{broken_rule}
 use Rattle.volume_files.specs.vm_script.declared.fault.ScriptFault.{ScriptFault}
 use Rattle.command_line.specs.declared.options.Options.{Options}
-use Rattle.command_line.specs.Options.{options_of}
+use Rattle.command_line.specs.declared.saying.Saying.{Saying}
+use Rattle.command_line.specs.declared.saying.Saying.TheVariants as says
+use Rattle.command_line.specs.Sayings.{saying_of}
 use Rattle.run_endings.specs.declared.ending.Ending.{Ending}
 use Rattle.run_endings.specs.declared.ending.Ending.TheVariants as ending
 use Rattle.run_input.specs.Asked.{Asked, Asks, Given, WasAsked, by_rules, by_script}
@@ -21,8 +23,9 @@ module _ (what : Asked) where
   by_text o (Err f) h = absurd cc
 
 pub asked-rules : (g : Given) (what : Asked) → WasAsked g (Ok what) → broken_rule what.plan ≡ None
-asked-rules g what asked = by_words (options_of g.words) asked
+asked-rules g what asked = by_words (saying_of g.words) asked
   where
-    by_words : (o : Option Options) → Asks o g.rest (Ok what) → broken_rule what.plan ≡ None
+    by_words : (said : Option Saying) → Asks said g.rest (Ok what) → broken_rule what.plan ≡ None
     by_words None h = absurd (let z : ◌≡◌ {A = Result Asked Ending} (Ok what) (Err ending.Usage) = h in cc)
-    by_words (Some o) h = by_text what o (plan_of h.1) h.3
+    by_words (Some (says.Inquiry q)) h = absurd h
+    by_words (Some (says.Options o)) h = by_text what o (plan_of h.1) h.3

@@ -7,16 +7,17 @@ use Rattle.volume_files.specs.vm_script.declared.plan.PlanAct.TheVariants as act
 use Rattle.volume_files.specs.vm_script.PlanSeen.{PlanSeen}
 use Rattle.run_input.specs.Asked.{Asked}
 
--- A line that neither forks nor waits.
+-- Whether a line neither forks nor waits.
 abbrev pub is_plain_act : PlanAct → Bool
 is_plain_act (act.Call (call.Fork child)) = false
 is_plain_act act.Wait = false
 is_plain_act a = true
 
--- One block at most, which neither forks nor waits.
+-- Whether a plan has one block at most, which neither forks nor waits.
 abbrev pub is_alone : PlanSeen → Bool
 is_alone plan = nat_le (length plan.parents) 1 && list_all (λ l. is_plain_act l.act) plan.lines
 
--- What was asked needs no thread: one block that neither forks nor waits, without a turn of the pageout daemon.
+-- Whether what was asked needs no thread: a plan of one block that neither forks nor waits, without
+-- a turn of the pageout daemon.
 abbrev pub needs_no_thread : Asked → Bool
 needs_no_thread what = (what.options.pageout == 0) && is_alone what.plan

@@ -1,4 +1,5 @@
 pub mod Asked
+pub mod Inquired
 pub mod TraceChecks
 pub mod Reading
 pub mod Alone

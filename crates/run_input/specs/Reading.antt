@@ -10,6 +10,7 @@ use Rattle.run_endings.specs.declared.ending.Ending.TheVariants as ending
 use Rattle.run_input.specs.declared.reading.Request.{Request}
 use Rattle.run_input.specs.declared.reading.Request.TheVariants as request
 use Rattle.run_input.specs.TraceChecks.{WasChecked, AnswersSource}
+use Rattle.run_input.specs.Inquired.{WasInquired}
 use Rattle.command_line.specs.declared.options.Options.{Options}
 use Rattle.run_input.specs.Asked.{Given, Asked, FailsToRead, WasAsked, by_plan, script_told}
 use Rattle.volume_files.specs.vm_script.declared.fault.ScriptFault.{ScriptFault}
@@ -42,18 +43,19 @@ AskStops g old new ending.NotRead = FailsToRead g old new
 AskStops g old new ending.Memory = Unit {0}
 AskStops g old new how = ⊥
 
--- WHAT WAS ASKED was read, from words and source, and a trace was answered; or why there is nothing to be run.
+-- WHAT WAS ASKED was read, from words and source, and a trace was answered, or the program is asked about itself; or why there is nothing to be run.
 abbrev pub AskEnds : Given → ℕ → ℕ → Result Request Ending → Type 0
 AskEnds g old new (Ok (request.Run options plan)) = WasAsked g (Ok (record { options = options; plan = plan })) × IsReadPlan plan
 AskEnds g old new (Ok (request.Check a)) = WasChecked g a
+AskEnds g old new (Ok (request.Ask q)) = WasInquired g q
 AskEnds g old new (Err how) = AskStops g old new how
 
--- What is said unless the source failed.
+-- This holds, unless the source failed.
 abbrev pub UnlessUnread : {T : Type 0} → Result T Ending → Type 0 → Type 0
 UnlessUnread (Err ending.NotRead) P = Unit {0}
 UnlessUnread r P = P
 
--- The script says this, whose text is told or not.
+-- A script says this result; its text is the one that is told, or some text if none is.
 abbrev pub SaysScript : Option ℕ → Option (List ℕ) → Result PlanSeen ScriptFault → Type 0
 SaysScript make rest r = (text : List ℕ) × IfSome (script_told make rest) (λ told. told ≡ text) × (plan_of text ≡ r)
 
@@ -83,6 +85,7 @@ untold_end answer.Long = ends.Told answer.Long
 abbrev pub IsAnswer : Option (List ℕ) → Request → Type 0
 IsAnswer rest (request.Check a) = AnswersSource rest a
 IsAnswer rest (request.Run options plan) = ⊥
+IsAnswer rest (request.Ask q) = ⊥
 
 -- Why no plan was read.
 abbrev pub ScriptStops : Option ℕ → Option (List ℕ) → ℕ → ℕ → Ending → Type 0
@@ -95,5 +98,6 @@ ScriptStops make rest old new how = ⊥
 abbrev pub TakesPlan : Options → PlanSeen → Result Request Ending → Type 0
 TakesPlan o plan (Ok (request.Run options read)) = (by_plan o plan ≡ Ok (record { options = options; plan = read })) × IsReadPlan read
 TakesPlan o plan (Ok (request.Check a)) = ⊥
+TakesPlan o plan (Ok (request.Ask q)) = ⊥
 TakesPlan o plan (Err (ending.Refused r)) = by_plan o plan ≡ Err (ending.Refused r)
 TakesPlan o plan (Err how) = ⊥

@@ -4,7 +4,8 @@ use Rattle.volume_files.specs.block_device.Counts.{HasRisen}
 use Rattle.volume_files.specs.block_device.StreamSeen.{SinkSeen}
 use Rattle.trace_check.specs.Checks.{IsChecked}
 use Rattle.command_line.specs.declared.options.Options.{Options}
-use Rattle.command_line.specs.Options.{options_of}
+use Rattle.command_line.specs.declared.saying.Saying.TheVariants as says
+use Rattle.command_line.specs.Sayings.{saying_of}
 use Rattle.run_endings.specs.declared.ending.Ending.{Ending}
 use Rattle.run_endings.specs.declared.ending.Ending.TheVariants as ending
 use Rattle.run_endings.specs.declared.ending.TraceAnswer.{TraceAnswer}
@@ -52,6 +53,6 @@ TellsAnswer a old new how = ⊥
 -- A CHECK WAS ASKED FOR, and this is the answer.
 pub record WasChecked (g : Given) (a : TraceAnswer) : Type 0 where
   pub options : Options
-  pub words : options_of g.words ≡ Some options
+  pub words : saying_of g.words ≡ Some (says.Options options)
   pub check : options.check ≡ true
   pub source : AnswersSource g.rest a

@@ -2,7 +2,9 @@
 #![tactic(auto)]
 
 mod checking;
+mod informing;
 mod reading;
 
 pub use checking::tell_answer;
+pub use informing::tell_inquiry;
 pub use reading::{Request, ask, needs_no_thread};

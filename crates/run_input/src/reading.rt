@@ -7,7 +7,7 @@ ghost use Rattle.run_input.specs.Reading.{AskEnds, IsAnswer, IsSpelled, SaysScri
 ghost use Rattle.run_input.specs.Alone as alone;
 
 use crate::checking::check_source;
-use command_line::{Options, read_options};
+use command_line::{Inquiry, Options, Saying, read_words};
 use run_endings::{Ending, TraceAnswer};
 use std::alloc::Global;
 use volume_files::{
@@ -15,11 +15,12 @@ use volume_files::{
     parse, read_to_limit, sound_law,
 };
 
-/// What the words ask for, once the source was read: a run, or the answer to a trace.
+/// What the words ask for, once the source was read: a run, or the answer to a trace; or what is asked about the program itself.
 #[derive(Drop)]
 pub enum Request {
     Run(Options, Plan),
     Check(TraceAnswer),
+    Ask(Inquiry),
 }
 
 fn is_plain_act(act: &PlanAct) -> bool
@@ -148,7 +149,7 @@ fn ask_check<S: Source>(alloc: Global, script: &mut S) -> Result<Request, Ending
 }
 
 /// Reads the words; and the trace where they ask for a check, which is answered; else the script, where they name no generated
-/// one. A plan that is read keeps the set-up rules that look at it alone.
+/// one and ask nothing about the program itself. A plan that is read keeps the set-up rules that look at it alone.
 ///
 /// Takes memory for the parse of the words, for the source's bytes, at most 1,048,577 of a script and 16,777,217 of a trace, and
 /// for the plan or the check. Time: that of the words and of the source's bytes.
@@ -160,8 +161,9 @@ pub fn ask<S: Source>(alloc: Global, words: &[String], script: &mut S) -> Result
     ensures steady { UnlessUnread result
         ((S.seen script.new).faults ≡ (S.seen script.old).faults) }
 {
-    let options = match read_options(alloc, words) {
-        Ok(Some(options)) => options,
+    let options = match read_words(alloc, words) {
+        Ok(Some(Saying::Options(options))) => options,
+        Ok(Some(Saying::Inquiry(inquiry))) => return Ok(Request::Ask(inquiry)),
         Ok(None) => return Err(Ending::Usage),
         Err(_) => return Err(Ending::Memory),
     };

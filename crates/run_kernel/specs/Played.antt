@@ -81,6 +81,7 @@ pub record LeftSeen : Type 0 where
   pub swap : Option DiskSeen
   pub fault : Option DiskFault
 
+-- What a closed kernel left as it is seen, by what is seen of its disks.
 abbrev pub left_seen : {D : Type 0} → (D → DiskSeen) → Finished D → LeftSeen
 left_seen seen f = record { history = f.history; files = f.files; disks = pairs_seen seen f.disks.items; swap = option_map seen f.swap; fault = f.fault }
 

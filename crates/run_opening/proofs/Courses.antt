@@ -35,7 +35,7 @@ use Rattle.volume_files.specs.Attached.{AttachedSeen, FileDisksTell, IsFilledBy,
 use Rattle.volume_files.specs.stored_files.Closed.{SayTables, StoreFiles, flat_bytes, info_at, infos_in_flat, mode_in, modes_in, stored_bytes}
 use Rattle.run_opening.specs.Ready.{IsReady}
 use Rattle.run_outcome.specs.Ended.{End, HasLateCause, CountsReach, HasCountsOf}
-use Rattle.volume_files.proofs.DiskCounts.{counts-kinds, kinds-written}
+use Rattle.volume_files.proofs.DiskCounts.{kinds-still, kinds-written}
 use Rattle.volume_files.specs.Handed.{kinds_of, HaveTold, HandsAll, HasSpecSize, block_told, volume_numbers, disk_handed, volumes_of, sizes_of}
 use Rattle.volume_files.specs.Opened.{IsVolumeAttached, OpenedFile, infos_of, line_files_of, names_of, opening_flat, setup_volumes, volume_number}
 use Rattle.vm_core.specs.page_hash.declared.PageName.{PageName}
@@ -164,7 +164,7 @@ module _ (st : ℕ) (ft : Option RunFault) (g : Given) (what : Asked) (files : L
           let y = in-map (λ (p : ℕ × DiskSeen). p.1.size) a.disks i x.0.1.size (ap (λ (z : List ℕ). slice_get z i) (sym sizes-old) ∙ size-at new i x.0 x.1) in
           subst (HasSpecSize sp) x.2 (spec-size sp y.0.1 x.0.1 (sym y.2) (ready.placed.handed.each.1 i sp y.0.1 si (at-map (λ (p : ℕ × DiskSeen). p.1) a.disks i y.0 y.1))),
     );
-    counts = counts-kinds new a.disks (kinds-written l.disks new w ∙ left.disks.kinds ∙ ap kinds_of started.racked) ∙ ready.placed.handed.counts;
+    kinds = kinds-still new a.disks (kinds-written l.disks new w ∙ left.disks.kinds ∙ ap kinds_of started.racked) ∙ ready.placed.handed.kinds;
     first = swap-serves-still (amounts_of what.plan.setup).slots a.swap (opening_flat plan (disk_sizes a.disks) files) s l started.swapped left ready.placed.handed.first;
   }
 

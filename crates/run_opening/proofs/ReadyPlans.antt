@@ -24,7 +24,7 @@ numbered-placed : (plan : PlanSeen) (holds : Spec → Option (List (List ℕ))) 
     → ArePlaced (numbered_plan files plan) holds files a made
 numbered-placed plan holds files a made p = record {
   numbers = p.numbers;
-  handed = record { each = p.handed.each; counts = p.handed.counts; first = p.handed.first };
+  handed = record { each = p.handed.each; kinds = p.handed.kinds; first = p.handed.first };
   sizes = p.sizes;
   fresh = p.fresh;
   well = p.well;

@@ -33,7 +33,7 @@ use Rattle.volume_files.specs.stored_files.Written.{numbered_seen, infos_made, A
 use Rattle.volume_files.specs.stored_files.Closed.{StoreFiles, info_at, stored_bytes}
 use Rattle.run_opening.specs.Ready.{AreReadBytes, TraceStops, opening_stop}
 use Rattle.run_outcome.specs.Ended.{End, stop_end}
-use Rattle.volume_files.proofs.DiskCounts.{counts-kinds, kinds-read}
+use Rattle.volume_files.proofs.DiskCounts.{kinds-read, kinds-still}
 use Rattle.volume_files.specs.Handed.{AreUncounted, HandsAll, HasDiskCause, HasSpecSize, HaveSpecSizes, HaveTold, IsCountedBy, volumes_of, sizes_of, AreWrittenAt, IsSwapAsGiven, block_told}
 use Rattle.volume_files.specs.Opened.{OpenedFile, opened_bytes_at, infos_of, line_files_of, numbered_plan, setup_volumes, volume_number}
 use Rattle.run_outcome.specs.Run.{AreOpenedBytes, CaseOf, IsOpened, Outside, opening_part, wrote_before}
@@ -92,7 +92,7 @@ specs-read specs old new r h = (
 hands-read : (plan : PlanSeen) (old new : List (ℕ × DiskSeen)) (swap : Option DiskSeen) → AreOnlyRead old new → HandsAll plan (bare_disks old) swap → HandsAll plan (bare_disks new) swap
 hands-read plan old new swap r h = record {
   each = specs-read (setup_volumes plan.setup) old new r h.each;
-  counts = counts-kinds new old (kinds-read old new r) ∙ h.counts;
+  kinds = kinds-still new old (kinds-read old new r) ∙ h.kinds;
   first = h.first;
 }
 
@@ -350,6 +350,7 @@ module _ (st : ℕ) (ft : Option RunFault) (g : Given) (o : Outside) (what : Ask
   traced-stop (ending.Closing f) none t = absurd t
   traced-stop (ending.Showing f) none t = absurd t
   traced-stop (ending.Checked x) none t = absurd t
+  traced-stop (ending.Informed x) none t = absurd t
 
   -- memory lacked behind the whole opening part
   pub lacks-behind : (AreUncounted (bare_disks new) a.swap) → Wrote o.sink_old o.sink_new (opening_part what files (bare_disks new) bytes) → CaseOf g o (wrote_before o) stopped ending.Memory

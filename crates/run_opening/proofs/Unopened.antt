@@ -41,6 +41,7 @@ quiet-trace o plan files bytes k0 k1 old new (ending.Opening x) q t = absurd q
 quiet-trace o plan files bytes k0 k1 old new (ending.Closing x) q t = absurd q
 quiet-trace o plan files bytes k0 k1 old new (ending.Showing x) q t = absurd q
 quiet-trace o plan files bytes k0 k1 old new (ending.Checked x) q t = absurd q
+quiet-trace o plan files bytes k0 k1 old new (ending.Informed x) q t = absurd q
 
 -- a trace that stopped
 pub unless-opening : {P Q : Type 0} (s : ShowStop OpenFaultSeen) (how : Ending) → how ≡ opening_stop s → (P → Q) → UnlessCut {T = Unit {0}} (Err s) P → UnlessEnded {T = Unit {0}} (Err how) Q

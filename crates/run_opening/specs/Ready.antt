@@ -43,7 +43,8 @@ opening_stop show.Memory = ending.Memory
 opening_stop show.Sink = ending.OpeningSink
 opening_stop (show.Fault f) = ending.Opening f
 
--- The opening part of the trace was written, where one was asked for; or why it wasn't, with what was written. The files' bytes are those that were read.
+-- Why the opening part of a trace wasn't written, and how much of it was; the files' bytes are
+-- those that were read.
 abbrev pub TraceStops : Options → PlanSeen → List OpenedFile → (ℕ → List ℕ) → SinkSeen → SinkSeen → List (ℕ × DiskSeen) → List (ℕ × DiskSeen) → Ending → Type 0
 TraceStops o plan files bytes k0 k1 old new ending.Memory = WroteFront k0 k1 (trace_opening o plan (disk_sizes old) (infos_of files) bytes)
 TraceStops o plan files bytes k0 k1 old new ending.OpeningSink =
@@ -53,6 +54,8 @@ TraceStops o plan files bytes k0 k1 old new (ending.Opening f) =
     × ((file : ℕ) × (page : ℕ) × IsPageUnread (infos_of files) file page f.disk × Wrote k0 k1 (trace_front plan (disk_sizes old) ++ sections_before Trace (infos_of files) bytes file page))
 TraceStops o plan files bytes k0 k1 old new how = ⊥
 
+-- The opening part of a trace was written, where one was asked for; or why it wasn't, with what
+-- was.
 abbrev pub Traces : Options → PlanSeen → List OpenedFile → (ℕ → List ℕ) → SinkSeen → SinkSeen → List (ℕ × DiskSeen) → List (ℕ × DiskSeen) → Result (Unit {0}) Ending → Type 0
 Traces o plan files bytes k0 k1 old new (Ok done) = Wrote k0 k1 (trace_opening o plan (disk_sizes old) (infos_of files) bytes)
 Traces o plan files bytes k0 k1 old new (Err how) = TraceStops o plan files bytes k0 k1 old new how

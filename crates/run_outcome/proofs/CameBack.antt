@@ -15,13 +15,14 @@ use Rattle.volume_files.specs.vm_script.PlanSeen.{PlanSeen}
 use Rattle.volume_files.specs.vm_script.Rules.{amounts_of}
 use Rattle.volume_files.specs.declared.stops.Refusal.{Refusal}
 use Rattle.volume_files.specs.declared.stops.Refusal.TheVariants as refusal
-use Rattle.volume_files.specs.Handed.{AreUntouched, BreaksSo, HandsAll, HandsBelow, HandsNone, HandsUnracked, HandsUnread, IsSwapFor, disk_counts, disks_apart, handed_specs, members_of}
+use Rattle.volume_files.specs.Handed.{AreUntouched, BreaksSo, HandsAll, HandsBelow, HandsNone, HandsUnracked, HandsUnread, IsSwapFor, disks_apart, handed_specs, members_of}
 use Rattle.volume_files.specs.Numbers.{both_numbers, disk_numbers}
-use Rattle.volume_files.specs.Opened.{OpenedFile, volume_numbered, volume_specs}
+use Rattle.volume_files.specs.Opened.{OpenedFile, disk_kind, spec_kind, volume_numbered, volume_specs}
 use Rattle.volume_files.proofs.DiskCounts.{same-maps}
 use Rattle.run_endings.specs.declared.ending.Ending.{Ending}
 use Rattle.run_endings.specs.declared.ending.Ending.TheVariants as ending
 use Rattle.run_endings.specs.declared.ending.TraceEnd.TheVariants as ends
+use Rattle.run_endings.specs.declared.inquiry_end.InquiryEnd.TheVariants as inquired
 use Rattle.run_outcome.specs.declared.outcome.Outcome.{Outcome}
 use Rattle.run_input.specs.Asked.{Given, Asked, WasAsked}
 use Rattle.run_outcome.specs.Ended.{End, end_of}
@@ -106,15 +107,16 @@ sum-same (v ∷ specs) =
 numbers-asked : (plan : PlanSeen) → length (disk_numbers plan.setup) ≡ disks_asked (volume_specs plan)
 numbers-asked plan = length-flat_map both_numbers (volume_specs plan) ∙ sum-same (volume_specs plan)
 
-counts-sum : (ds : List DiskSeen) (specs : List VolumeSpec) → disk_counts ds ≡ map spec_count specs → members_of ds ≡ disks_asked specs
-counts-sum [] [] same = refl
-counts-sum [] (s ∷ specs) same = absurd (let z : ◌≡◌ {A = List ℕ} [] (spec_count s ∷ map spec_count specs) = same in cc)
-counts-sum (d ∷ ds) [] same = absurd (let z : ◌≡◌ {A = List ℕ} (d.kind.members ∷ disk_counts ds) [] = same in cc)
-counts-sum (d ∷ ds) (s ∷ specs) same =
-    let z : ◌≡◌ {A = List ℕ} (d.kind.members ∷ disk_counts ds) (spec_count s ∷ map spec_count specs) = same in
-    let first : d.kind.members ≡ spec_count s = cc in
-    let behind : disk_counts ds ≡ map spec_count specs = cc in
-    let rest = counts-sum ds specs behind in
+kinds-sum : (ds : List DiskSeen) (specs : List VolumeSpec) → map disk_kind ds ≡ map spec_kind specs → members_of ds ≡ disks_asked specs
+kinds-sum [] [] same = refl
+kinds-sum [] (s ∷ specs) same = absurd (let z : ◌≡◌ {A = List (ℕ × Bool)} [] (spec_kind s ∷ map spec_kind specs) = same in cc)
+kinds-sum (d ∷ ds) [] same = absurd (let z : ◌≡◌ {A = List (ℕ × Bool)} (disk_kind d ∷ map disk_kind ds) [] = same in cc)
+kinds-sum (d ∷ ds) (s ∷ specs) same =
+    let z : ◌≡◌ {A = List (ℕ × Bool)} (disk_kind d ∷ map disk_kind ds) (spec_kind s ∷ map spec_kind specs) = same in
+    let one : disk_kind d ≡ spec_kind s = cc in
+    let first : d.kind.members ≡ spec_count s = λ i. (one i).0 in
+    let behind : map disk_kind ds ≡ map spec_kind specs = cc in
+    let rest = kinds-sum ds specs behind in
     let a = sum_by-cons (λ (x : DiskSeen). x.kind.members) d ds in
     let b = sum_by-cons spec_count s specs in
     omega (arith, first, rest, a, b)
@@ -135,7 +137,7 @@ module _ (plan : PlanSeen) (holds : Spec → Option (List (List ℕ))) (disks : 
   in-all : HandsAll plan disks swap → IsHanded plan disks swap
   in-all h = record {
     few = let long = h.each.0 in let few = few-volumes plan in omega (arith, long, few);
-    asked = let same = counts-sum disks (volume_specs plan) h.counts in omega (arith, same);
+    asked = let same = kinds-sum disks (volume_specs plan) h.kinds in omega (arith, same);
     one = one-swap (amounts_of plan.setup).slots swap h.first;
   }
 
@@ -143,9 +145,9 @@ module _ (plan : PlanSeen) (holds : Spec → Option (List (List ℕ))) (disks : 
   in-front whole apart h one = record {
     few = let long = h.count in let few = few-specs plan whole apart in omega (arith, long, few);
     asked =
-        let counts : disk_counts disks ≡ map spec_count (handed_specs plan whole apart) =
-        same-maps (λ (d : DiskSeen). d.kind.members) spec_count disks (handed_specs plan whole apart) h.count (λ i d s at is. (h.each i s d is at).1) in
-        let same = counts-sum disks (handed_specs plan whole apart) counts in
+        let kinds : map disk_kind disks ≡ map spec_kind (handed_specs plan whole apart) =
+        same-maps disk_kind spec_kind disks (handed_specs plan whole apart) h.count (λ i d s at is. (h.each i s d is at).1) in
+        let same = kinds-sum disks (handed_specs plan whole apart) kinds in
         let front = front-asked (volume_specs plan) whole apart in
         omega (arith, same, front);
     one = one;
@@ -214,6 +216,8 @@ module _ (g : Given) (o : Outside) (W : Writing) (e : End) where
   by-case ending.Memory c = by-lacks c
   by-case (ending.Checked (ends.Told a)) c = inl c.none
   by-case (ending.Checked ends.Sink) c = inl c.1.none
+  by-case (ending.Informed (inquired.Told q)) c = inl c.none
+  by-case (ending.Informed (inquired.Sink q)) c = inl c.none
 
 came-back : (g : Given) (o : Outside) (e : End) → RunEnds g o e → CameBack g e
 came-back g o e r = elim r.case [

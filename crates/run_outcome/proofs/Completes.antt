@@ -3,16 +3,20 @@ use Rattle.std.proofs.Common.{◌≡◌, ℕ, refl, sym, ap, ◌∙◌, subst, i
 use Rattle.std.specs.Prelude.{Bool, IfSome, IsSome, List, MatchOption, Option, option_map, Some, None, Result, Ok, Err, if◌then◌else◌}
 use Rattle.run_endings.specs.declared.ending.TraceAnswer.{TraceAnswer}
 use Rattle.run_endings.specs.declared.ending.TraceEnd.TheVariants as ends
+use Rattle.run_endings.specs.declared.inquiry_end.InquiryEnd.TheVariants as inquired
 use Rattle.run_input.specs.TraceChecks.{WasChecked}
+use Rattle.run_input.specs.Inquired.{WasInquired}
 use Rattle.std.proofs.lemmas.Option.{none-some, same_Some}
 use Rattle.volume_files.specs.block_device.Counts.{HasRisen}
 use Rattle.volume_files.specs.block_device.OpenSeen.{OpenFaultSeen}
 use Rattle.run_endings.specs.declared.ending.Ending.{Ending}
 use Rattle.run_endings.specs.declared.ending.Ending.TheVariants as ending
 use Rattle.volume_files.specs.vm_script.Plans.{plan_of}
-use Rattle.command_line.specs.declared.options.Options.{Options}
-use Rattle.run_input.specs.Asked.{Given, Asked, Asks, WasAsked, run_request, request_of_options, by_script, script_told}
-use Rattle.command_line.specs.Options.{options_of}
+use Rattle.command_line.specs.declared.saying.Saying.{Saying}
+use Rattle.command_line.specs.declared.saying.Saying.TheVariants as says
+use Rattle.command_line.specs.declared.inquiry.Inquiry.{Inquiry}
+use Rattle.run_input.specs.Asked.{Given, Asked, Asks, WasAsked, run_request, request_of_saying, by_script, script_told}
+use Rattle.command_line.specs.Sayings.{saying_of}
 use Rattle.run_endings.specs.Ending.{fault_of, status_of}
 use Rattle.run_outcome.specs.Ended.{End}
 use Rattle.volume_files.specs.Handed.{HasRefusalCause, IsCountedBy}
@@ -23,9 +27,10 @@ told-text None F q r is h = absurd (none-some q is)
 told-text (Some told) F q r is h = sym h.2 ∙ ap F (sym h.1) ∙ same_Some (F told) q is
 
 -- what was asked is the one thing that the words and the text ask for, where the text is told
-one-asked : (words : Option Options) (rest : Option (List ℕ)) (q r : Result Asked Ending) → request_of_options words rest ≡ Some q → Asks words rest r → r ≡ q
+one-asked : (words : Option Saying) (rest : Option (List ℕ)) (q r : Result Asked Ending) → request_of_saying words rest ≡ Some q → Asks words rest r → r ≡ q
 one-asked None rest q r is h = h ∙ same_Some (Err ending.Usage) q is
-one-asked (Some o) rest q r is h =
+one-asked (Some (says.Inquiry p)) rest q r is h = absurd h
+one-asked (Some (says.Options o)) rest q r is h =
     let said : option_map (λ text. by_script o (plan_of text)) (script_told o.make rest) ≡ Some q =
     sym (ap (λ (b : Bool). if b then None else option_map (λ text. by_script o (plan_of text)) (script_told o.make rest)) h.0) ∙ is in
     told-text (script_told o.make rest) (λ text. by_script o (plan_of text)) q r said (h.1, h.2, h.3)
@@ -33,15 +38,19 @@ one-asked (Some o) rest q r is h =
 -- no run is asked for where a check is
 pub not-checked : (g : Given) (what : Asked) (a : TraceAnswer) → run_request g ≡ Some (Ok what) → WasChecked g a → ⊥
 not-checked g what a is w =
-    let none : run_request g ≡ None = ap (λ (o : Option Options). request_of_options o g.rest) w.words
+    let none : run_request g ≡ None = ap (λ (said : Option Saying). request_of_saying said g.rest) w.words
     ∙ ap (λ (b : Bool). if b then None else option_map (λ text. by_script w.options (plan_of text)) (script_told w.options.make g.rest)) w.check in
     none-some (Ok what) (sym none ∙ is)
 
+-- nor where the program is asked about itself
+pub not-inquired : (g : Given) (what : Asked) (q : Inquiry) → run_request g ≡ Some (Ok what) → WasInquired g q → ⊥
+not-inquired g what q is w = none-some (Ok what) (sym (ap (λ (said : Option Saying). request_of_saying said g.rest) w) ∙ is)
+
 not-stopped : (g : Given) (what : Asked) (h : Ending) → run_request g ≡ Some (Ok what) → WasAsked g (Err h) → ⊥
-not-stopped g what h is p = let b : ◌≡◌ {A = Result Asked Ending} (Err h) (Ok what) = one-asked (options_of g.words) g.rest (Ok what) (Err h) is p in cc
+not-stopped g what h is p = let b : ◌≡◌ {A = Result Asked Ending} (Err h) (Ok what) = one-asked (saying_of g.words) g.rest (Ok what) (Err h) is p in cc
 
 pub same-run_request : (g : Given) (what other : Asked) → run_request g ≡ Some (Ok what) → WasAsked g (Ok other) → other ≡ what
-same-run_request g what other is p = let b : ◌≡◌ {A = Result Asked Ending} (Ok other) (Ok what) = one-asked (options_of g.words) g.rest (Ok what) (Ok other) is p in cc
+same-run_request g what other is p = let b : ◌≡◌ {A = Result Asked Ending} (Ok other) (Ok what) = one-asked (saying_of g.words) g.rest (Ok what) (Ok other) is p in cc
 
 rack-or-disk : (f : OpenFaultSeen) (P : Type 0) (Q : ℕ × ℕ → Type 0) → MatchOption f.counts P Q → (P → ⊥) → IsSome f.counts
 rack-or-disk f P Q h never = by f.counts h
@@ -74,6 +83,8 @@ module _ (g : Given) (o : Outside) (e : End) where
   by-case ending.Memory s f c what is ns nk nr = inr (inl s)
   by-case (ending.Checked (ends.Told a)) s f c what is ns nk nr = absurd (not-checked g what a is c.answer)
   by-case (ending.Checked ends.Sink) s f c what is ns nk nr = absurd (not-checked g what c.0 is c.1.answer)
+  by-case (ending.Informed (inquired.Told q)) s f c what is ns nk nr = absurd (not-inquired g what q is c.asked)
+  by-case (ending.Informed (inquired.Sink q)) s f c what is ns nk nr = absurd (not-inquired g what q is c.asked)
 
   pub completes : RunEnds g o e → IsComplete g o e
   completes r = elim r.case [

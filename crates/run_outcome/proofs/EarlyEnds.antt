@@ -11,7 +11,10 @@ use Rattle.run_endings.specs.declared.ending.Ending.TheVariants as ending
 use Rattle.run_outcome.specs.declared.stop.Stop.{Stop}
 use Rattle.run_endings.specs.declared.ending.TraceAnswer.{TraceAnswer}
 use Rattle.run_endings.specs.declared.ending.TraceEnd.TheVariants as ends
+use Rattle.run_endings.specs.declared.inquiry_end.InquiryEnd.TheVariants as inquired
 use Rattle.run_input.specs.TraceChecks.{TellsAnswer, WasChecked, WroteAnswer}
+use Rattle.run_input.specs.Inquired.{TellsInquiry, WasInquired}
+use Rattle.command_line.specs.declared.inquiry.Inquiry.{Inquiry}
 use Rattle.volume_files.specs.declared.stops.HandedBack.{HandedBack}
 use Rattle.volume_files.specs.declared.stops.OpenStop.{OpenStop}
 use Rattle.volume_files.specs.declared.stops.OpenStop.TheVariants as halt
@@ -62,6 +65,7 @@ module _ (st : ℕ) (ft : Option RunFault) (g : Given) (o : Outside) (nothing : 
   asked-stop H disks swap (ending.Closing f) entries counts none last a = absurd a
   asked-stop H disks swap (ending.Showing f) entries counts none last a = absurd a
   asked-stop H disks swap (ending.Checked t) entries counts none last a = absurd a
+  asked-stop H disks swap (ending.Informed t) entries counts none last a = absurd a
 
   module _ (what : Asked) (asked : WasAsked g (Ok what)) (old new : ℕ) (risen : HasRisen old new → HasRisen o.rack_old o.rack_new) where
     same-cause : (disks : List DiskSeen) (swap : Option DiskSeen) (f : OpenFaultSeen) → HasOpeningCause what.plan disks swap old new f
@@ -176,6 +180,34 @@ module _ (st : ℕ) (ft : Option RunFault) (g : Given) (o : Outside) (H : Histor
   checked-stop a (ending.Opening f) w t = absurd t
   checked-stop a (ending.Closing f) w t = absurd t
   checked-stop a (ending.Showing f) w t = absurd t
+  checked-stop a (ending.Informed x) w t = absurd t
+
+  -- or the program told of itself
+  informed-stop : (q : Inquiry) (how : Ending) → WasInquired g q → TellsInquiry q o.sink_old o.sink_new how → CaseOf g o (wrote_before o) bare how
+  informed-stop q (ending.Informed (inquired.Told p)) w t = rw t.0 (record {
+    asked = w;
+    none = record { no_disk = none; no_swap = last };
+    history = record { entries = entries; counts = counts };
+    wrote = t.1;
+  })
+  informed-stop q (ending.Informed (inquired.Sink p)) w t = rw t.0 (record {
+    asked = w;
+    none = record { no_disk = none; no_swap = last };
+    history = record { entries = entries; counts = counts };
+    wrote = t.1;
+  })
+  informed-stop q ending.Memory w t = absurd t
+  informed-stop q ending.Whole w t = absurd t
+  informed-stop q ending.Usage w t = absurd t
+  informed-stop q (ending.NoScript f) w t = absurd t
+  informed-stop q (ending.Refused r) w t = absurd t
+  informed-stop q ending.NotRead w t = absurd t
+  informed-stop q ending.OpeningSink w t = absurd t
+  informed-stop q ending.Sink w t = absurd t
+  informed-stop q (ending.Opening f) w t = absurd t
+  informed-stop q (ending.Closing f) w t = absurd t
+  informed-stop q (ending.Showing f) w t = absurd t
+  informed-stop q (ending.Checked x) w t = absurd t
 
 pub stopped-checking : (st : ℕ) (ft : Option RunFault) (g : Given) (o : Outside) (a : TraceAnswer) (k0 k1 : SinkSeen) → o.sink_old ≡ k0 → o.sink_new ≡ k1 → WasChecked g a
     → {D : Type 0} (seen : D → DiskSeen) (s : Stop D) (how : Ending) → s.ending ≡ how → s.history.entries ≡ [] → s.history.faults ≡ [] → s.disks.items ≡ [] → s.swap ≡ None
@@ -183,6 +215,13 @@ pub stopped-checking : (st : ℕ) (ft : Option RunFault) (g : Given) (o : Outsid
 stopped-checking st ft g o a k0 k1 before after w seen s how is entries counts none last t =
     let told : TellsAnswer a o.sink_old o.sink_new s.ending = rw (is, before, after) t in
     checked-stop st ft g o s.history (map seen s.disks.items) (option_map seen s.swap) entries counts (ap (map seen) none) (ap (option_map seen) last) a s.ending w told
+
+pub stopped-informing : (st : ℕ) (ft : Option RunFault) (g : Given) (o : Outside) (q : Inquiry) (k0 k1 : SinkSeen) → o.sink_old ≡ k0 → o.sink_new ≡ k1 → WasInquired g q
+    → {D : Type 0} (seen : D → DiskSeen) (s : Stop D) (how : Ending) → s.ending ≡ how → s.history.entries ≡ [] → s.history.faults ≡ [] → s.disks.items ≡ [] → s.swap ≡ None
+    → TellsInquiry q k0 k1 how → CaseOf g o (wrote_before o) (record (stop_end seen s) { status = st; fault = ft }) s.ending
+stopped-informing st ft g o q k0 k1 before after w seen s how is entries counts none last t =
+    let told : TellsInquiry q o.sink_old o.sink_new s.ending = rw (is, before, after) t in
+    informed-stop st ft g o s.history (map seen s.disks.items) (option_map seen s.swap) entries counts (ap (map seen) none) (ap (option_map seen) last) q s.ending w told
 
 -- counts that rose rose for the outside
 pub risen-outside : (old new : ℕ) (o : Outside) → o.rack_old ≡ old → o.rack_new ≡ new → HasRisen old new → HasRisen o.rack_old o.rack_new

@@ -14,7 +14,9 @@ use Rattle.run_endings.specs.declared.fault.RunFault.{RunFault}
 use Rattle.run_endings.specs.declared.ending.TraceAnswer.{TraceAnswer}
 use Rattle.run_endings.specs.declared.ending.TraceAnswer.TheVariants as answer
 use Rattle.run_endings.specs.declared.ending.TraceEnd.TheVariants as ends
+use Rattle.run_endings.specs.declared.inquiry_end.InquiryEnd.TheVariants as inquired
 use Rattle.run_input.specs.TraceChecks.{StopsInAnswer, WroteAnswer}
+use Rattle.command_line.specs.Inquiries.{inquiry_text}
 use Rattle.run_endings.specs.Ending.{IsQuiet, answer_text, fault_of, last_line_of, status_of}
 use Rattle.run_outcome.specs.Ended.{End}
 use Rattle.volume_files.specs.Handed.{member_count}
@@ -38,6 +40,7 @@ no-line (ending.Opening x) q = absurd q
 no-line (ending.Closing x) q = absurd q
 no-line (ending.Showing x) q = absurd q
 no-line (ending.Checked x) q = absurd q
+no-line (ending.Informed x) q = absurd q
 
 -- whichever way it ended
 pub racked-anyway : {P : Type 0} (how : Ending) → P → UnlessRacked how P
@@ -57,6 +60,7 @@ racked-anyway ending.Sink p = p
 racked-anyway (ending.Closing x) p = p
 racked-anyway (ending.Showing x) p = p
 racked-anyway (ending.Checked x) p = p
+racked-anyway (ending.Informed x) p = p
 
 -- ---- the sink
 
@@ -197,6 +201,13 @@ module _ (g : Given) (s0 s1 r0 r1 n0 n1 : ℕ) (k0 k1 k2 : SinkSeen) (e : End) (
   line-told (ending.Checked (ends.Told a)) c w = record { answer = c.answer; none = c.none; history = c.history; wrote = answer-still a c.wrote (silent k1 k2 w) }
   line-told (ending.Checked ends.Sink) c w =
       (c.0, record { answer = c.1.answer; none = c.1.none; history = c.1.history; wrote = stops-still c.0 c.1.wrote (silent k1 k2 w) })
+  line-told (ending.Informed (inquired.Told q)) c w = record { asked = c.asked; none = c.none; history = c.history; wrote = still_wrote k0 k1 k2 (inquiry_text q) c.wrote (silent k1 k2 w) }
+  line-told (ending.Informed (inquired.Sink q)) c w = record {
+    asked = c.asked;
+    none = c.none;
+    history = c.history;
+    wrote = (risen-after k0.faults k1.faults k2.faults c.wrote.0 later, still_part k0 k1 k2 [] (inquiry_text q) c.wrote.1 (silent k1 k2 w));
+  }
 
   -- the run's end, whichever it is
   pub last-line : (was how : Ending) → CaseOf g (outside k1) (wrote_before (outside k1)) e was → FailsOnce (outside k1) was → IsConcluded was k1 k2 how

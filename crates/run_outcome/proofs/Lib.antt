@@ -7,3 +7,4 @@ pub mod MemberLists
 pub mod CameBack
 pub mod TextsTold
 pub mod RunsHanded
+pub mod RunLaws

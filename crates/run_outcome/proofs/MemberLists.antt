@@ -1,5 +1,5 @@
 -- The disks that volumes stand for, as lists.
-use Rattle.std.proofs.Common.{◌≡◌, ◌≢◌, false, ℕ, zero, suc, ◌+◌, ◌<◌, ◌≤◌, List, [], ◌∷◌, ◌++◌, length, map, Option, Some, None, refl, sym, ap, ◌∙◌, subst, arith, inl, inr}
+use Rattle.std.proofs.Common.{◌≡◌, ◌≢◌, Bool, true, false, ℕ, zero, suc, ◌+◌, ◌<◌, ◌≤◌, List, [], ◌∷◌, ◌++◌, length, map, Option, Some, None, refl, sym, ap, ◌∙◌, subst, arith}
 use Rattle.std.specs.Prelude.{◌==◌, All, IfSome, option_map, slice_index_or, zip}
 use Rattle.std.specs.List.{AllByRecursion, IsDistinct, flat_map}
 use Rattle.std.specs.List.Sorted.{IsNonDecreasingBy, IsPermutation, IsStrictlyIncreasing}
@@ -13,7 +13,7 @@ use Rattle.std.proofs.lemmas.List.Sums.{sum_by-cons}
 use Rattle.std.proofs.lemmas.Map.Keys.{IsDistinct-IsPermutation}
 use Rattle.std.proofs.lemmas.Option.{get_or_from_slice_get, same_Some, slice_get_within}
 use Rattle.volume_files.specs.block_device.DiskSeen.{DiskSeen}
-use Rattle.volume_files.specs.joined_disk.JoinedSeen.{IsSeenBy, joined_parts, joined_seen}
+use Rattle.volume_files.specs.joined_disk.JoinedSeen.{IsBoth, IsSeenBy, joined_parts, joined_seen}
 use Rattle.volume_files.specs.joined_disk.declared.joined.JoinedDisk.{JoinedDisk}
 use Rattle.volume_files.specs.volume_disks.Singles.{as_single, single_seen}
 use Rattle.volume_files.specs.volume_disks.declared.single.Single.{Single}
@@ -166,12 +166,13 @@ module _ {D : Type 0} {disk : _} (v : JoinedDisk (Single D) disk) where
   parts-one a is = ap (λ (p : Single D × Option (Single D)). p.0.disk ∷ option_to_list (option_map (λ (s : Single D). s.disk) p.1)) is
 
 -- how many disks a volume is, by how it is seen
-count-seen : (a : DiskSeen) (b : Option DiskSeen) (v : DiskSeen) → IsSeenBy (as_single a) (option_map as_single b) v → v.kind.members ≡ length (both_disks (a, b))
+pub count-seen : (a : DiskSeen) (b : Option DiskSeen) (v : DiskSeen) → IsSeenBy (as_single a) (option_map as_single b) v → v.kind.members ≡ length (both_disks (a, b))
 count-seen a None v is = ap (λ (d : DiskSeen). d.kind.members) is
-count-seen a (Some b) v is = elim is.1 [
-  | inl stripe ↦ ap (λ (d : DiskSeen). d.kind.members) stripe
-  | inr mirror ↦ ap (λ (d : DiskSeen). d.kind.members) mirror.seen
-]
+count-seen a (Some b) v is = both v.kind.mirror is.1
+  where
+    both : (mirror : Bool) → IsBoth mirror (as_single a) (as_single b) v → v.kind.members ≡ 2
+    both true mirror = ap (λ (d : DiskSeen). d.kind.members) mirror.seen
+    both false stripe = ap (λ (d : DiskSeen). d.kind.members) stripe
 
 module _ {D : Type 0} (seen : D → DiskSeen) where
   option-seen : (o : Option D) → map seen (option_to_list o) ≡ option_to_list (option_map seen o)

@@ -18,13 +18,14 @@ use Rattle.run_endings.specs.declared.ending.Ending.TheVariants as ending
 use Rattle.run_endings.specs.declared.ending.TraceAnswer.{TraceAnswer}
 use Rattle.run_endings.specs.declared.ending.TraceAnswer.TheVariants as answer
 use Rattle.run_endings.specs.declared.ending.TraceEnd.TheVariants as ends
+use Rattle.run_endings.specs.declared.inquiry_end.InquiryEnd.TheVariants as inquired
 use Rattle.run_input.specs.Asked.{Asked, Given, run_request}
 use Rattle.run_report.specs.AskedTexts.{files_or_none, sections_or_summary}
 use Rattle.run_outcome.specs.Ended.{End}
 use Rattle.run_endings.specs.Ending.{status_of}
 use Rattle.run_outcome.specs.Run.{CaseOf, DisksTell, EndsWhole, Outside, PrintsLegalTrace, PrintsTrace, RunEnds, flat_opened, plan_opened, traced_text, wrote_all}
 use Rattle.run_input.specs.TraceChecks.{AnswersText, most_trace_bytes}
-use Rattle.run_outcome.proofs.Completes.{not-checked, same-run_request}
+use Rattle.run_outcome.proofs.Completes.{not-checked, not-inquired, same-run_request}
 
 -- a text has one answer alone
 abbrev pub OneAnswer : Type 0
@@ -73,6 +74,8 @@ module _ (one : OneAnswer) (g : Given) (o : Outside) (e : End) where
       subst (λ (x : Asked). IsTrue x.options.trace → DisksTell e → PrintsTrace g o x e) (same-run_request g what w.course.what is w.shown.runs.begun.opened.asked) (by-whole w) trace tell
   by-case (ending.Checked (ends.Told a)) s c = λ what is trace zero tell. absurd (not-checked g what a is c.answer)
   by-case (ending.Checked ends.Sink) s c = other 6 (omega arith) s
+  by-case (ending.Informed (inquired.Told q)) s c = λ what is trace zero tell. absurd (not-inquired g what q is c.asked)
+  by-case (ending.Informed (inquired.Sink q)) s c = other 6 (omega arith) s
   by-case ending.Usage s c = other 2 (omega arith) s
   by-case (ending.NoScript f) s c = other 3 (omega arith) s
   by-case (ending.Refused r) s c = other 4 (omega arith) s

@@ -19,6 +19,7 @@ pub record End : Type 0 where
   pub disks : List DiskSeen
   pub swap : Option DiskSeen
 
+-- An outcome as it is seen, by what is seen of its disks.
 abbrev pub end_of : {D : Type 0} → (D → DiskSeen) → Outcome D → End
 end_of seen o = record { status = o.status; fault = o.fault; history = o.history; disks = map seen o.disks.items; swap = option_map seen o.swap }
 

@@ -1,5 +1,6 @@
 pub mod OnDisks
 pub mod Run
+pub mod RunLaws
 pub mod Members
 pub mod MemberRooms
 pub mod Ended

@@ -25,6 +25,8 @@ use Rattle.run_endings.specs.declared.ending.TraceAnswer.{TraceAnswer}
 use Rattle.run_endings.specs.declared.ending.TraceAnswer.TheVariants as answer
 use Rattle.run_endings.specs.declared.ending.TraceEnd.{TraceEnd}
 use Rattle.run_endings.specs.declared.ending.TraceEnd.TheVariants as ends
+use Rattle.run_endings.specs.declared.inquiry_end.InquiryEnd.{InquiryEnd}
+use Rattle.run_endings.specs.declared.inquiry_end.InquiryEnd.TheVariants as inquired
 use Rattle.run_endings.specs.declared.fault.RunFault.{RunFault}
 use Rattle.run_endings.specs.declared.fault.RunFault.TheVariants as fault
 use Rattle.volume_files.specs.stored_files.declared.showing.Heading.TheVariants.{Report, Trace}
@@ -38,6 +40,8 @@ use Rattle.volume_files.specs.Opened.{line_files_of, ComesTo, OpenedFile, opened
 use Rattle.volume_files.specs.stored_files.Texts.{Wrote, WroteAndFront, WroteAndPart, WroteFront, WroteOn, WrotePart, IsPageUnread, sections_before, trace_front}
 use Rattle.run_report.specs.AskedTexts.{files_or_none, middle_text, trace_opening}
 use Rattle.run_input.specs.TraceChecks.{AnswersText, WasChecked, WroteAnswer, StopsInAnswer, most_trace_bytes}
+use Rattle.run_input.specs.Inquired.{WasInquired, WroteInquiry, StopsInInquiry}
+use Rattle.command_line.specs.declared.inquiry.Inquiry.{Inquiry}
 
 -- What the outside has seen of a run: the counts of faults of source and rack before and after it, how many disks the rack had attached, and the sink.
 pub record Outside : Type 0 where
@@ -50,6 +54,7 @@ pub record Outside : Type 0 where
   pub sink_old : SinkSeen
   pub sink_new : SinkSeen
 
+-- What the outside has seen, by what was seen of source, rack and sink before and after a run.
 abbrev pub outside_of : SourceSeen → SourceSeen → RackSeen → RackSeen → SinkSeen → SinkSeen → Outside
 outside_of s0 s1 r0 r1 k0 k1 = record {
   source_old = s0.faults;
@@ -62,14 +67,15 @@ outside_of s0 s1 r0 r1 k0 k1 = record {
   sink_new = k1;
 }
 
--- What is said of a text and the last line behind it: as a run has ended, that the text was written, and the line as far as the sink took it; before its
--- last line, that the text was written.
+-- What is said of how a text and the last line behind it were written.
 abbrev pub Writing : Type 1
 Writing = List ℕ → List ℕ → Type 0
 
+-- As a run has ended: the text was written, and the line behind it as far as the sink took it.
 abbrev pub wrote_all : Outside → Writing
 wrote_all o text line = WroteOn o.sink_old o.sink_new text line
 
+-- Before its last line: the text was written.
 abbrev pub wrote_before : Outside → Writing
 wrote_before o text line = Wrote o.sink_old o.sink_new text
 
@@ -113,13 +119,14 @@ pub record IsOpened (g : Given) (what : Asked) (files : List OpenedFile) (e : En
 abbrev pub WroteLines : (g : Given) (what : Asked) (files : List OpenedFile) {sizes : List (ℕ × ℕ)} → ComesTo what.plan g.holds sizes (Ok files) → End → Type 0
 WroteLines g what files c e = AreWrittenAt what.plan g.holds (line_files_of c.found files) e.disks e.swap
 
--- What was printed before a fault of this disk that came once the files had their places: nothing, or a trace up to the place of a page that wasn't read
--- from it.
+-- The text is a trace up to the place of a page that wasn't read from this disk.
 abbrev pub IsTraceText : Asked → List OpenedFile → List DiskSeen → ℕ → (ℕ → List ℕ) → List ℕ → Type 0
 IsTraceText what files disks disk bytes text =
     (file : ℕ) × (page : ℕ) × (what.options.trace ≡ true) × IsPageUnread (infos_of files) file page disk
     × (text ≡ trace_front what.plan (sizes_of what.plan disks) ++ sections_before Trace (infos_of files) bytes file page)
 
+-- What was printed before a fault of this disk that came once the files had their places: nothing, or
+-- a trace up to the place of a page that wasn't read from it.
 abbrev pub IsOpeningText : Given → Asked → List OpenedFile → End → ℕ → List ℕ → Type 0
 IsOpeningText g what files e disk text =
     (text ≡ []) ⊎ ((bytes : ℕ → List ℕ) × AreOpenedBytes g what files e bytes × IsTraceText what files e.disks disk bytes text)
@@ -165,23 +172,30 @@ pub record StopsInTrace (g : Given) (o : Outside) (e : End) : Type 0 where
   pub cause : HasRisen o.sink_old.faults o.sink_new.faults
   pub wrote : WrotePart o.sink_old o.sink_new (opening_part what files e.disks bytes)
 
--- THE RUN BEGAN. Flat memory as the processes find it; where the disks tell, the history is legal for it, and a trace of both is a text that stands for them;
--- whatever they tell, each of its entries, device errors aside, has the signal or errno that flat memory calls due, or none where none is; and each of its device
--- errors names a fault that its disk had counted before the closing began, by the counts that the history tells, which are the disks'. And where the disks tell, all their blocks but block 0, and but as many of those that files keep as the disk counted faults,
--- are as the rack gave them or have the page that a file keeps there, as it was after a front of the history; and each that a file keeps holds such a front.
+-- Flat memory as the processes find it.
 abbrev pub flat_opened : Asked → List OpenedFile → List DiskSeen → Flat
 flat_opened what files disks = opening_flat what.plan (sizes_of what.plan disks) files
 
+-- The plan with its files by their numbers.
 abbrev pub plan_opened : Asked → List OpenedFile → PlanSeen
 plan_opened what files = numbered_plan files what.plan
 
+-- Flat memory after the history.
 abbrev pub flat_closed : Asked → List OpenedFile → List DiskSeen → List Entry → Flat
 flat_closed what files disks H = replay (flat_opened what files disks) H
 
--- What a trace of it tells: the opening part, and the history.
+-- What a trace of the run tells: the opening part, and the history.
 abbrev pub traced_text : Asked → List OpenedFile → (ℕ → List ℕ) → End → List ℕ
 traced_text what files bytes e = printed_text what.plan (sizes_of what.plan e.disks) files bytes e.history.entries
 
+-- THE RUN BEGAN. Where the disks tell, the history is legal for flat memory as the processes find it,
+-- and a trace of both is a text that stands for them. Whatever they tell, each of its entries, device
+-- errors aside, has the signal or errno that flat memory calls due, or none where none is. Each of its
+-- device errors names a fault that its disk had counted before the closing began, by the counts that
+-- the history tells, which are the disks'. And where the disks tell, all their blocks but block 0, and
+-- but as many of those that files keep as the disk counted faults, are as the rack gave them or have
+-- the page that a file keeps there, as it was after a front of the history; and each that a file keeps
+-- holds such a front.
 pub record Begun (g : Given) (what : Asked) (files : List OpenedFile) (bytes : ℕ → List ℕ) (e : End) : Type 0 where
   pub opened : IsOpened g what files e
   pub read : AreOpenedBytes g what files e bytes
@@ -235,16 +249,19 @@ pub record Course : Type 0 where
   pub infos : List FileInfo
   pub shown : ℕ → List ℕ
 
--- Its text: the opening part; what stands between that and the files; and the report, which is that and the files.
+-- The opening part of its text.
 abbrev pub opening_of : Course → End → List ℕ
 opening_of c e = opening_part c.what c.files e.disks c.bytes
 
+-- What stands between the opening part and the files.
 abbrev pub middle_of : Course → End → List ℕ
 middle_of c e = middle_text c.what.options (plan_opened c.what c.files) e.history.entries
 
+-- The report: what stands before the files, and the files, where they are asked for.
 abbrev pub report_of : Course → End → List ℕ
 report_of c e = middle_of c e ++ files_or_none c.what.options.make c.infos c.shown
 
+-- The whole text of a run: the opening part, and the report.
 abbrev pub whole_text : Course → End → List ℕ
 whole_text c e = opening_of c e ++ report_of c e
 
@@ -259,6 +276,7 @@ pub record WasShown (g : Given) (c : Course) (e : End) : Type 0 where
   pub closed : ClosesFiles g c.what c.files c.infos e
   pub shown : AreClosedBytes g c.what c.files c.infos e c.shown
 
+-- The run was shown, and its whole text was written.
 pub record EndsWhole (g : Given) (o : Outside) (e : End) : Type 0 where
   pub course : Course
   pub shown : WasShown g course e
@@ -291,13 +309,14 @@ pub record FailsToShow (g : Given) (W : Writing) (fault : DiskFault) (e : End) :
   pub none : course.what.options.make ≡ None
   pub wrote : W (opening_of course e ++ (middle_of course e ++ sections_before Report course.infos course.shown file page)) (last_line_of (ending.Showing fault))
 
--- Memory lacked before the processes ran, and no disk had failed, as far as their counts tell. No text was written, or a front of
--- the opening part of the trace.
+-- Memory lacked before anything was attached, and nothing was written.
 pub record LacksBare (o : Outside) (e : End) : Type 0 where
   pub none : HandsNone e.disks e.swap
   pub history : HasNoHistory e
   pub wrote : Wrote o.sink_old o.sink_new []
 
+-- Memory lacked before the processes ran, with a front of the volumes attached, and no disk had
+-- failed, as far as their counts tell. Nothing was written.
 pub record LacksOpening (g : Given) (o : Outside) (e : End) : Type 0 where
   pub what : Asked
   pub asked : WasAsked g (Ok what)
@@ -306,6 +325,8 @@ pub record LacksOpening (g : Given) (o : Outside) (e : End) : Type 0 where
   pub history : HasNoHistory e
   pub wrote : Wrote o.sink_old o.sink_new []
 
+-- Memory lacked before the processes ran, once the files had their places, and no disk had failed, as
+-- far as their counts tell. A front of the opening part of the trace was written.
 pub record LacksInTrace (g : Given) (o : Outside) (e : End) : Type 0 where
   pub what : Asked
   pub files : List OpenedFile
@@ -330,20 +351,36 @@ pub record LacksLate (g : Given) (o : Outside) (e : End) : Type 0 where
       × (WroteNoTable g course.what e ⊎ WroteTablesBelow g course.what course.files course.infos fault.disk e))
   pub wrote : Wrote o.sink_old o.sink_new (opening_of course e) ⊎ (WasShown g course e × WroteAndFront o.sink_old o.sink_new (opening_of course e) (report_of course e))
 
+-- Memory lacked, in one of four phases of a run.
 abbrev pub Lacks : Given → Outside → End → Type 0
 Lacks g o e = LacksBare o e ⊎ LacksOpening g o e ⊎ LacksInTrace g o e ⊎ LacksLate g o e
 
--- A TRACE WAS CHECKED in place of a script: nothing was attached, and the answer's line was written; or the sink failed in a verdict.
+-- A trace was checked in place of a script: nothing was attached, and of the answer's line this was
+-- written.
 pub record HasChecked (g : Given) (o : Outside) (a : TraceAnswer) (e : End) (P : SinkSeen → SinkSeen → TraceAnswer → Type 0) : Type 0 where
   pub answer : WasChecked g a
   pub none : HandsNone e.disks e.swap
   pub history : HasNoHistory e
   pub wrote : P o.sink_old o.sink_new a
 
+-- A TRACE WAS CHECKED: the answer's line was written; or the sink failed in a verdict.
 abbrev pub ChecksTrace : Given → Outside → End → TraceEnd → Type 0
 ChecksTrace g o e (ends.Told a) = HasChecked g o a e WroteAnswer
 ChecksTrace g o e ends.Sink = (a : TraceAnswer) × HasChecked g o a e StopsInAnswer
 
+-- THE PROGRAM WAS ASKED ABOUT ITSELF in place of a run: nothing was attached, and the text that was asked for was written; or the sink failed in it.
+pub record HasInformed (g : Given) (o : Outside) (q : Inquiry) (e : End) (P : SinkSeen → SinkSeen → Inquiry → Type 0) : Type 0 where
+  pub asked : WasInquired g q
+  pub none : HandsNone e.disks e.swap
+  pub history : HasNoHistory e
+  pub wrote : P o.sink_old o.sink_new q
+
+-- How the program told of itself.
+abbrev pub Informs : Given → Outside → End → InquiryEnd → Type 0
+Informs g o e (inquired.Told q) = HasInformed g o q e WroteInquiry
+Informs g o e (inquired.Sink q) = HasInformed g o q e StopsInInquiry
+
+-- WHAT EACH ENDING SAYS of the run, with what is said of how its text was written.
 abbrev pub CaseOf : Given → Outside → Writing → End → Ending → Type 0
 CaseOf g o W e ending.Whole = EndsWhole g o e
 CaseOf g o W e ending.Usage = WasAsked g (Err ending.Usage) × EndsBare W ending.Usage e
@@ -357,6 +394,7 @@ CaseOf g o W e (ending.Closing f) = FailsToClose g o f e
 CaseOf g o W e (ending.Showing f) = FailsToShow g W f e
 CaseOf g o W e ending.Memory = Lacks g o e
 CaseOf g o W e (ending.Checked t) = ChecksTrace g o e t
+CaseOf g o W e (ending.Informed t) = Informs g o e t
 
 -- What is said unless the rack ended the run: a fault of its opening that has no counts is the rack's.
 abbrev pub UnlessRacked : Ending → Type 0 → Type 0

@@ -6,6 +6,7 @@ mod concluding;
 mod members;
 mod numbers;
 mod outcome;
+mod run_laws;
 mod stop;
 
 pub use block_laws::synced_block_law;
@@ -13,4 +14,8 @@ pub use concluding::conclude;
 pub use members::{hand_members, take_rooms};
 pub use numbers::without_numbers;
 pub use outcome::Outcome;
+pub use run_laws::{
+    as_asked_law, disks_back_law, errors_counted_law, errors_rise_law, kept_files_law,
+    ran_fronts_law, status_law,
+};
 pub use stop::{Stop, bare_stop, stop_unopened};

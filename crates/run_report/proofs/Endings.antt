@@ -20,6 +20,7 @@ use Rattle.run_report.specs.ReportEnds.{CloseEnds, LacksTable, MiddleStops, Show
 use Rattle.volume_files.specs.stored_files.Texts.{Wrote, WroteFront, WrotePart}
 use Rattle.run_report.specs.AskedTexts.{files_or_none, middle_text}
 use Rattle.volume_files.specs.stored_files.Closed.{SayTables}
+use Rattle.volume_files.specs.stored_files.Uncut.{counts_of}
 use Rattle.volume_files.specs.stored_files.declared.closing.TableStop.{TableStop}
 use Rattle.volume_files.specs.stored_files.declared.closing.TableStop.TheVariants as table
 use Rattle.volume_files.specs.stored_files.Written.{disk_fault_counts, AreFilesBytes, IsShowStop, IsTableStop, WriteTables, WroteTablesAt}
@@ -42,6 +43,7 @@ module _ (o : Options) (plan : PlanSeen) (H : List Entry) (infos : List FileInfo
   middle-stopped bytes are (ending.Closing f) m = absurd m
   middle-stopped bytes are (ending.Showing f) m = absurd m
   middle-stopped bytes are (ending.Checked t) m = absurd m
+  middle-stopped bytes are (ending.Informed t) m = absurd m
 
 -- a generated script shows no file
 pub without-files : (make : Option ℕ) (k0 k1 : SinkSeen) (text : List ℕ) (infos : List FileInfo) (bytes : ℕ → List ℕ) → is_some make ≡ true → Wrote k0 k1 text
@@ -73,20 +75,21 @@ module _ (o : Options) (plan : PlanSeen) (H : List Entry) (infos : List FileInfo
 
 -- no table was written
 pub no-tables : (infos : List FileInfo) (disks : List (ℕ × DiskSeen)) → WroteTablesAt infos 0 disks disks
-no-tables infos disks = record { before = λ i d low at. absurd (omega (arith, low)); behind = λ i low. refl }
+no-tables infos disks = record { before = λ i d low at. absurd (omega (arith, low)); behind = λ i low. refl; uncounted = refl }
 
 -- tables were written up to some disk, whether all were or not
-pub tables-to : (infos : List FileInfo) (old new : List (ℕ × DiskSeen)) → WriteTables old new → (r : Result (Unit {0}) TableStop) → OnOk r (SayTables new infos) → IfErr r (IsTableStop infos old new)
+pub tables-to : (infos : List FileInfo) (old new : List (ℕ × DiskSeen)) → WriteTables old new → (r : Result (Unit {0}) TableStop) → OnOk r (SayTables new infos) → OnOk r (counts_of new ≡ counts_of old) → IfErr r (IsTableStop infos old new)
     → TablesLeft infos old new
-tables-to infos old new w (Ok done) say stop = inl (
+tables-to infos old new w (Ok done) say none stop = inl (
   length new,
   record {
     before = λ i d low at. say i d at;
     behind = λ i past. slice_get_past new i (omega (arith, past)) ∙ sym (slice_get_past old i (let count = w.count in omega (arith, past, count)));
+    uncounted = none;
   },
 )
-tables-to infos old new w (Err table.Memory) say stop = inl stop
-tables-to infos old new w (Err (table.Fault f)) say stop = inr (f, stop.0, stop.1)
+tables-to infos old new w (Err table.Memory) say none stop = inl stop
+tables-to infos old new w (Err (table.Fault f)) say none stop = inr (f, stop.0, stop.1)
 
 -- not all lines were made
 pub lacks-closed : (whole : Bool) (fault : Option DiskFault) (o : Options) (plan : PlanSeen) (H : List Entry) (infos : List FileInfo) (k0 k1 : SinkSeen) (old new : List (ℕ × DiskSeen)) (how : Ending)

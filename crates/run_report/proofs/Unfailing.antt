@@ -27,6 +27,7 @@ unless-ended (Err (ending.Opening x)) f p = tt
 unless-ended (Err (ending.Closing x)) f p = tt
 unless-ended (Err (ending.Showing x)) f p = tt
 unless-ended (Err (ending.Checked x)) f p = tt
+unless-ended (Err (ending.Informed x)) f p = tt
 unless-ended (Err ending.Memory) f p = f p
 
 pub where-shown : {P : Type 0} (s : ShowStop DiskFault) → showing_stop s ≡ ending.Memory → UnlessCut {T = Unit {0}} (Err s) P → P
@@ -48,6 +49,7 @@ quiet-middle text k0 k1 (ending.Opening x) q stops = absurd q
 quiet-middle text k0 k1 (ending.Closing x) q stops = absurd q
 quiet-middle text k0 k1 (ending.Showing x) q stops = absurd q
 quiet-middle text k0 k1 (ending.Checked x) q stops = absurd q
+quiet-middle text k0 k1 (ending.Informed x) q stops = absurd q
 
 pub quiet-shown : (s : ShowStop DiskFault) → IsQuiet (showing_stop s) → showing_stop s ≡ ending.Memory
 quiet-shown show.Memory q = refl

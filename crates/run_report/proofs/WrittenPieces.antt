@@ -60,6 +60,7 @@ module _ (k0 k1 : SinkSeen) (all text left : List ℕ) (kept : KeptBack k0 k1 al
   kept_stop k2 later (ending.Closing f) m = absurd m
   kept_stop k2 later (ending.Showing f) m = absurd m
   kept_stop k2 later (ending.Checked t) m = absurd m
+  kept_stop k2 later (ending.Informed t) m = absurd m
 
 -- what was kept back is the text alone
 pub kept_alone : (k0 k1 : SinkSeen) (all text left : List ℕ) → left ≡ [] → KeptBack k0 k1 all (text ++ left) → KeptBack k0 k1 all text

@@ -8,6 +8,7 @@ use Rattle.volume_files.specs.block_device.declared.disk_fault.DiskFault.{DiskFa
 use Rattle.volume_files.specs.vnode_files.declared.vnode.FileInfo.{FileInfo}
 use Rattle.volume_files.specs.vm_report.Faults.{disk_fault_text}
 use Rattle.volume_files.specs.vm_script.PlanSeen.{PlanSeen}
+use Rattle.run_endings.specs.Ending.{IsQuiet}
 use Rattle.run_endings.specs.declared.ending.Ending.{Ending}
 use Rattle.run_endings.specs.declared.ending.Ending.TheVariants as ending
 use Rattle.command_line.specs.declared.options.Options.{Options}
@@ -15,11 +16,12 @@ use Rattle.volume_files.specs.stored_files.declared.showing.Heading.TheVariants.
 use Rattle.volume_files.specs.stored_files.declared.showing.ShowStop.{ShowStop}
 use Rattle.volume_files.specs.stored_files.declared.showing.ShowStop.TheVariants as show
 use Rattle.volume_files.specs.stored_files.Closed.{SayTables}
+use Rattle.volume_files.specs.stored_files.Uncut.{counts_of}
 use Rattle.volume_files.specs.stored_files.Texts.{Wrote, WroteFront, WroteOn, WrotePart, IsPageUnread, sections_before}
 use Rattle.run_report.specs.AskedTexts.{files_or_none, middle_text}
 use Rattle.volume_files.specs.stored_files.Written.{AreFilesBytes, AreOnlyRead, IsCountedSince, WriteTables, WroteTablesAt, WroteTablesTo, disk_fault_counts}
 
--- What is said unless the sink or a disk failed: where a step was done, or memory lacked.
+-- This holds where a step was done or lacked memory; not where a sink or a disk failed.
 abbrev pub UnlessEnded : {T : Type 0} → Result T Ending → Type 0 → Type 0
 UnlessEnded (Ok done) P = P
 UnlessEnded (Err ending.Memory) P = P
@@ -41,20 +43,24 @@ ShowEnds o plan H infos k0 k1 old new ending.Memory =
     (bytes : ℕ → List ℕ) × AreFilesBytes infos old bytes × WroteFront k0 k1 (middle_text o plan H ++ files_or_none o.make infos bytes)
 ShowEnds o plan H infos k0 k1 old new how = ⊥
 
--- How a run ended whose processes made all lines: a transfer failed as the files were closed; or the tables were written, and the report ended so; or
--- memory lacked for a table.
+-- How a report ends where a transfer failed as the files were closed: its line was written, or
+-- memory lacked and nothing was.
 abbrev pub CloseFails : Options → PlanSeen → List Entry → DiskFault → SinkSeen → SinkSeen → Ending → Type 0
 CloseFails o plan H f k0 k1 (ending.Closing g) = (g ≡ f) × WroteOn k0 k1 [] (middle_text o plan H ++ disk_fault_text f.disk f.before f.after)
 CloseFails o plan H f k0 k1 ending.Memory = Wrote k0 k1 []
 CloseFails o plan H f k0 k1 how = ⊥
 
+-- The tables of all disks were written, then the files were shown, and the report ended as their
+-- showing does. Neither the whole report nor want of memory hides a failure that a disk tells.
 pub record ShowsClosed (o : Options) (plan : PlanSeen) (H : List Entry) (infos : List FileInfo) (k0 k1 : SinkSeen) (old new : List (ℕ × DiskSeen)) (how : Ending) : Type 0 where
   pub mid : List (ℕ × DiskSeen)
   pub writes : WriteTables old mid
   pub tables : SayTables mid infos
   pub reads : AreOnlyRead mid new
+  pub uncounted : IsQuiet how → counts_of new ≡ counts_of old
   pub ends : ShowEnds o plan H infos k0 k1 mid new how
 
+-- A disk failed as its table was written, and the report ends as a closing that failed.
 pub record FailsTable (o : Options) (plan : PlanSeen) (H : List Entry) (infos : List FileInfo) (k0 k1 : SinkSeen) (old new : List (ℕ × DiskSeen)) (how : Ending) : Type 0 where
   pub fault : DiskFault
   pub counted : IsCountedSince old new (disk_fault_counts fault)
@@ -62,18 +68,22 @@ pub record FailsTable (o : Options) (plan : PlanSeen) (H : List Entry) (infos : 
   pub tables : WroteTablesTo infos counted.i old new
   pub ends : CloseFails o plan H fault k0 k1 how
 
--- How far tables were written where memory lacked: up to a place, and nothing else; or up to that of a disk whose own wasn't, as its last transfer failed.
+-- How far tables were written where memory lacked: up to a place and nothing else, or up to that of
+-- a disk whose last transfer failed.
 abbrev pub TablesLeft : List FileInfo → List (ℕ × DiskSeen) → List (ℕ × DiskSeen) → Type 0
 TablesLeft infos old new =
     ((place : ℕ) × WroteTablesAt infos place old new)
     ⊎ ((fault : DiskFault) × (c : IsCountedSince old new (disk_fault_counts fault)) × WroteTablesTo infos c.i old new)
 
+-- Memory lacked for a table: tables were written up to a place, and no text.
 pub record LacksTable (infos : List FileInfo) (k0 k1 : SinkSeen) (old new : List (ℕ × DiskSeen)) (how : Ending) : Type 0 where
   pub memory : how ≡ ending.Memory
   pub writes : WriteTables old new
   pub tables : TablesLeft infos old new
   pub wrote : Wrote k0 k1 []
 
+-- How a report ends where all lines were made and no transfer failed: files shown, a table's disk
+-- failed, or memory lacked for a table.
 abbrev pub TablesEnd : Options → PlanSeen → List Entry → List FileInfo → SinkSeen → SinkSeen → List (ℕ × DiskSeen) → List (ℕ × DiskSeen) → Ending → Type 0
 TablesEnd o plan H infos k0 k1 old new how =
     ShowsClosed o plan H infos k0 k1 old new how ⊎ FailsTable o plan H infos k0 k1 old new how ⊎ LacksTable infos k0 k1 old new how
@@ -97,6 +107,7 @@ pub record KeptBack (k0 k1 : SinkSeen) (text rest : List ℕ) : Type 0 where
   pub wrote : Wrote k0 k1 sent
   pub whole : sent ++ rest ≡ text
 
+-- The ending of a run that stopped as the files were shown.
 abbrev pub showing_stop : ShowStop DiskFault → Ending
 showing_stop show.Memory = ending.Memory
 showing_stop show.Sink = ending.Sink

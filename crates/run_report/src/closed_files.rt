@@ -4,6 +4,7 @@ ghost use Rattle.page_store.specs.Bays.{pairs_seen};
 ghost use Rattle.volume_files.specs.vm_report.Faults.{disk_fault_text};
 ghost use Rattle.volume_files.specs.vm_types.WellFormed.{IsWellFormed};
 ghost use Rattle.volume_files.specs.stored_files.Written.{HaveVolumeNames, infos_made, LieWell, HaveDisks, HaveExtents, HaveFirstBlocks, AreOnlyRead};
+ghost use Rattle.volume_files.specs.stored_files.Uncut.{counts_of};
 ghost use Rattle.run_report.specs.ReportEnds.{CloseFails, ShowEnds, TablesEnd, showing_stop};
 ghost use Rattle.run_endings.specs.Ending.{IsQuiet};
 ghost use Rattle.run_report.specs.AskedTexts.{middle_text};
@@ -95,7 +96,10 @@ fn show_report<D: Disk, K: Sink>(
     // What stays.
     ensures reads { AreOnlyRead (pairs_seen D.seen disks.old) (pairs_seen D.seen disks.new) }
     ensures later { (K.seen out.old).faults ≤ (K.seen out.new).faults }
+    // Neither the whole report nor want of memory hides a failure.
     ensures hides { IsQuiet result → (K.seen out.new).faults ≡ (K.seen out.old).faults }
+    ensures uncounted { IsQuiet result → counts_of (pairs_seen D.seen disks.new)
+        ≡ counts_of (pairs_seen D.seen disks.old) }
 {
     if let Err(ending) = write_middle(alloc, options, plan, history, out) {
         return ending;

@@ -64,9 +64,12 @@ pub record MaySetEnd (w : World) (f n : ℕ) : Type 0 where
 abbrev pub lengthened : List Extent → ℕ → File → File
 lengthened extents n file = record file { len = n; extents = extents; pages = file.pages ++ replicate (pages_in n - length file.pages) zero_page }
 
+-- Memory with these records of files.
 abbrev pub with_file_records : Memory → FilesSeen → Memory
 with_file_records m files = record m { world = record m.world { files = files } }
 
+-- A file that may get another end gets it with its record: it is longer by pages of zeros, or
+-- shorter, as flat memory says.
 pub record EndsLaw : Type 0 where
   pub longer : (m : Memory) (files : FilesSeen) (f n : ℕ) (extents : List Extent) → MemoryFits m → SetsEnd m.world.files files f n extents → MaySetEnd m.world f n → (vnode_at m.world.files f).info.length ≤ n
       → ChangesFile f m (with_file_records m files) (lengthened extents n)

@@ -42,7 +42,8 @@ abbrev pub GrowsInto : Memory → Memory → ℕ → ℕ → (File → File) →
 GrowsInto old new f end g = (extents : List Extent) → growth_of old.world.files f (pages_in end) ≡ Some extents
     → ChangesFile f old new (λ file. g (with_extents_of extents file))
 
--- Where it isn't ready: it isn't home, and this is answered to a call that wants it home.
+-- The old last page of a file that is to get longer is ready; or it isn't home, and this is
+-- answered to a call that wants it home.
 abbrev pub FetchesLast : {D : Type 0} → rust.World D → rust.World D → ℕ → ℕ → Result Unit Wants → Type 0
 FetchesLast old new f end (Ok done) = IsLastReady (world_seen new) f end
 FetchesLast old new f end (Err want) = (name : PageName) × GrowthWants (world_seen old) f end name × ((frame : ℕ) → residence old.store name ≢ Home frame)

@@ -17,7 +17,8 @@ use Rattle.seg_map.specs.Ends.{MaySetEnd}
 abbrev pub IsTailStill : World → ℕ → ℕ → Type 0
 IsTailStill w f end = (name : PageName) → IsCutPage w f end name → (seat : ℕ) → residence w.store name ≢ Moving seat
 
--- It is moving with this seat, or isn't moving.
+-- The new last page of a file that is to get shorter, where it gets a tail, is moving with this
+-- seat, or isn't moving.
 abbrev pub HoldsTail : World → ℕ → ℕ → Option ℕ → Type 0
 HoldsTail w f end (Some seat) = (end % page_size ≢ 0) × (residence w.store (file_name f (page end)) ≡ Moving seat)
 HoldsTail w f end None = IsTailStill w f end
@@ -32,7 +33,7 @@ pub record LosesPast (old new : Memory) (f end : ℕ) : Type 0 where
   pub changes : ChangesFile f old new change
   pub past : IsPastEnd end change
 
--- So it may get that end then.
+-- The file lost something, all of it past an end, and may get that end then.
 pub record MayShorten (old new : Memory) (f end : ℕ) : Type 0 where
   pub loses : LosesPast old new f end
   pub may : MaySetEnd new.world f end

@@ -20,7 +20,7 @@ files_voided files f i = with_vnode files f (with_blank (vnode_at files f) i tru
 abbrev pub with_page_void : ℕ → File → File
 with_page_void i file = record file { pages = with_change_at (λ old. zero_page) file.pages i }
 
--- What such files are: the same records, and one page more that is blank.
+-- The files have the same records and one page more that is blank.
 pub record VoidsPage (old new : FilesSeen) (f i : ℕ) : Type 0 where
   pub disks : new.disks ≡ old.disks
   pub infos : map (λ (v : VnodeSeen). v.info) new.files ≡ map (λ (v : VnodeSeen). v.info) old.files

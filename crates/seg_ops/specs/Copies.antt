@@ -39,7 +39,8 @@ pub record CanBeSpared (w : World) (name : PageName) (frame : ℕ) : Type 0 wher
 abbrev pub IsKnownLater : World → PageName → ℕ → Type 0
 IsKnownLater w name frame = (¬ IsListedFrame w.store frame) ⊎ ((next_frame w.store ≡ Some frame) × IsDiskHome w name)
 
--- What a page that is home has then: its bytes, and where the next frame is its own, zeros in place of those past its valid ones.
+-- What a page that is home has once the next frame is taken: its bytes, and where the next frame is
+-- its own, zeros in place of those past its valid ones.
 abbrev pub bytes_kept : World → PageName → Page
 bytes_kept w name = cut_page (is_name (next_name w.store) name) (world_table w name).valid (home_bytes w.store (find w.store.names name))
 
@@ -47,6 +48,7 @@ bytes_kept w name = cut_page (is_name (next_name w.store) name) (world_table w n
 abbrev pub copied_bytes : StoreSeen → Front → Page
 copied_bytes s front = front_bytes s.frames front.frame front.valid
 
+-- The frame of the front is home, and no more of its bytes are valid than a page has.
 pub record IsFront (s : StoreSeen) (front : Front) : Type 0 where
   pub home : IsSome (bytes_at s.frames front.frame)
   pub valid : front.valid ≤ 4096
@@ -55,7 +57,8 @@ pub record IsFront (s : StoreSeen) (front : Front) : Type 0 where
 abbrev pub HasBytes : World → PageName → Page → Type 0
 HasBytes w name bytes = (notes : Notes) → NotesFit w notes → AllTell w notes → page_value w notes name ≡ bytes
 
--- So has each page that was home.
+-- Each page that was home, and of which it is known what it has once the next frame is taken, has
+-- that.
 abbrev pub KeepsBytes : {D : Type 0} → rust.World D → rust.World D → Type 0
 KeepsBytes old new = (name : PageName) (frame : ℕ) → residence old.store name ≡ Home frame → IsKnownLater (world_seen old) name frame
     → HasBytes (world_seen new) name (bytes_kept (world_seen old) name)

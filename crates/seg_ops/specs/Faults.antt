@@ -36,7 +36,8 @@ Accesses false q (Load a n) = page a ≡ q
 Accesses true q (Store a n v) = page a ≡ q
 Accesses write q call = ⊥
 
--- Each such access wants this first, whatever seats have the files' calls: a transfer that can run, or what holds it up. No home page that the access wants
+-- Each access of this page, all stores or all loads, wants this first, whatever seats have the
+-- files' calls: a transfer that can run, or what holds it up. No home page that the access wants
 -- lost its frame.
 pub record WaitsFor (old new : Memory) (p q : ℕ) (write : Bool) (want : Wants) : Type 0 where
   pub wants : (calls : List (Option ℕ)) (call : Call) → Accesses write q call → IsWanted new calls p call want
@@ -64,6 +65,7 @@ abbrev pub EndsThere : Result Fault Wants → World → World → Type 0
 EndsThere (Ok Loaded) mid new = Unit {0}
 EndsThere answer mid new = new ≡ mid
 
+-- The fault came to Past: the place is past its object's end.
 abbrev pub is_past : Result Fault Wants → Bool
 is_past (Ok Past) = true
 is_past answer = false
@@ -95,9 +97,10 @@ IsAllowed write prot = IsTrue (if write then can_write prot else can_read prot)
 abbrev pub IsFitAt : {D : Type 0} → rust.World D → ℕ → ℕ → Spot → Type 0
 IsFitAt w p q x = (spaces : Spaces) × Fits w spaces × (spot_at spaces p q ≡ Some x)
 
--- The same of the world before and after; and whatever the spaces in which the page shows the place.
+-- What a fault at a place of any mapping comes to, by the world before and after, in these spaces.
 abbrev pub FaultServed : {D : Type 0} → rust.World D → rust.World D → Spaces → ℕ → ℕ → Spot → Bool → Result Fault Wants → Type 0
 FaultServed old new spaces p q x write answer = ServesFault (memory old spaces) (memory new spaces) old.pending new.pending p q x write answer
 
+-- What a fault at a place comes to, whatever the spaces in which the page shows the place.
 abbrev pub FaultServedAt : {D : Type 0} → rust.World D → rust.World D → ℕ → ℕ → Spot → Bool → Result Fault Wants → Type 0
 FaultServedAt old new p q x write answer = (spaces : Spaces) → Fits old spaces → spot_at spaces p q ≡ Some x → FaultServed old new spaces p q x write answer

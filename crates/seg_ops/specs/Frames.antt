@@ -27,7 +27,8 @@ next_cleared w F = tails_cleared F (tails_lost (world_seen w) (is_name (next_nam
 abbrev pub KeepsButNext : {D : Type 0} → rust.World D → rust.World D → Type 0
 KeepsButNext old new = (spaces : Spaces) → Fits old spaces → WorldStep (world_seen old) (world_seen new) spaces stays (is_name (next_name old.store))
 
--- So it does as a flight with this note goes out with a seat.
+-- As a flight with this note goes out with a seat, each page keeps its value, but that the one
+-- which held the next frame is cut at its valid bytes.
 abbrev pub SendsButNext : {D : Type 0} → rust.World D → rust.World D → ℕ → Note → Type 0
 SendsButNext old new seat note = (spaces : Spaces) (notes : Notes) → Fits old spaces → NotesFit (world_seen old) notes
     → WorldStep (world_seen old) (world_seen new) spaces (leaves seat note) (is_name (next_name old.store))

@@ -19,16 +19,18 @@ use Rattle.seg_ops.specs.Slots.{MakesHome, OwnsAlone}
 abbrev pub IsOwned : {D : Type 0} → rust.World D → ℕ → ℕ → Type 0
 IsOwned w map place = (spaces : Spaces) × (p : ℕ) × (q : ℕ) × (x : Spot) × Fits w spaces × OwnsAlone spaces p q map place x × (translation_at w.hat.places p q ≡ None)
 
--- Whatever page does, flat memory becomes this.
+-- Whatever page owns the place alone and has no translation, flat memory becomes this function of
+-- what it was.
 abbrev pub OwnerBecomes : {D : Type 0} → rust.World D → rust.World D → ℕ → ℕ → (ℕ → ℕ → Flat → Flat) → Type 0
 OwnerBecomes old new map place f = (spaces : Spaces) (p q : ℕ) (x : Spot) → Fits old spaces → OwnsAlone spaces p q map place x → translation_at old.hat.places p q ≡ None
     → ChangesMemory p (memory old spaces) (memory new spaces) (λ F. f p q F)
 
--- Its cell loses its own page.
+-- Whatever page owns the place alone and has no translation, its cell loses its own page.
 abbrev pub OwnerLoses : {D : Type 0} → rust.World D → rust.World D → ℕ → ℕ → Type 0
 OwnerLoses old new map place = OwnerBecomes old new map place (λ p q F. without_own_page F p q)
 
--- Whatever page does, the place is emptied, which held this slot.
+-- Whatever page owns the place alone and has no translation, the place is emptied, which held this
+-- slot.
 abbrev pub OwnerLeaves : {D : Type 0} → rust.World D → rust.World D → ℕ → ℕ → ℕ → Type 0
 OwnerLeaves old new map place slot = (spaces : Spaces) (p q : ℕ) (x : Spot) → Fits old spaces → OwnsAlone spaces p q map place x → translation_at old.hat.places p q ≡ None
     → EmptiesPlace (world_seen old) (world_seen new) spaces map place slot

@@ -24,7 +24,8 @@ pub record NeedsPlan (m : Memory) (name : PageName) (plan : Plan) : Type 0 where
   pub frame : is_push plan ≡ false → IsSome (next_frame m.world.store)
   pub may : (of : Caller) → WantsHome m of.0 of.1 name → MayPlan m (Some of) plan
 
--- What is answered to a call that wants the page home: such a plan, or a hold that it has to wait for.
+-- What is answered to a call that wants the page home: a plan that can begin, or a hold that it has
+-- to wait for.
 abbrev pub FetchesPage : Memory → PageName → Wants → Type 0
 FetchesPage m name (Transfer plan) = NeedsPlan m name plan
 FetchesPage m name (Seat h) = (calls : List (Option ℕ)) (of : Caller) → WantsHome m of.0 of.1 name → HoldsUp m calls of.0 of.1 h

@@ -50,20 +50,22 @@ abbrev pub HasRoomUnless : {D : Type 0} → rust.World D → Option PageName →
 HasRoomUnless w None = IsSome (next_frame w.store)
 HasRoomUnless w (Some name) = (next_frame w.store ≡ None) × IsDirtyPage (world_seen w) name
 
--- Each page that is home in a frame on no list is there; no page comes home; and no frame comes on a list.
+-- Each page that is home in a frame on no list is there.
 abbrev pub KeepsUnlisted : StoreSeen → StoreSeen → Type 0
 KeepsUnlisted old new = (page : PageName) (frame : ℕ) → residence old page ≡ Home frame → ¬ IsListedFrame old frame → residence new page ≡ Home frame
 
+-- Each page that was absent is absent still.
 abbrev pub KeepsAbsent : StoreSeen → StoreSeen → Type 0
 KeepsAbsent old new = (page : PageName) → residence old page ≡ Absent → residence new page ≡ Absent
 
+-- No frame comes on a list.
 abbrev pub ListsNoMore : StoreSeen → StoreSeen → Type 0
 ListsNoMore old new = (frame : ℕ) → IsListedFrame new frame → IsListedFrame old frame
 
--- The lists are as they were ..
+-- The lists are as they were.
 abbrev pub SameLists : StoreSeen → StoreSeen → Type 0
 SameLists old new = (new.free ≡ old.free) × (new.cached ≡ old.cached)
 
--- .. but that one frame more may be last on the cache list.
+-- The lists are as they were, but that one frame more may be last on the cache list.
 abbrev pub ListsOneMore : StoreSeen → StoreSeen → Type 0
 ListsOneMore old new = (new.free ≡ old.free) × ((new.cached ≡ old.cached) ⊎ ((frame : ℕ) × (new.cached ≡ old.cached ++ frame ∷ [])))

@@ -30,7 +30,7 @@ with_bits_gathered s frame told =
 abbrev pub store_gathered : {D : Type 0} → rust.World D → ℕ → StoreSeen
 store_gathered w frame = with_bits_gathered w.store frame (bits_of frame w.hat.places)
 
--- the same where a translation had to give way, or none
+-- the store once the bits of a translation that had to give way, if one had to, are in its page
 abbrev pub with_dropped_gathered : StoreSeen → Option Dropped → StoreSeen
 with_dropped_gathered s None = s
 with_dropped_gathered s (Some d) = with_bits_gathered s d.frame (d.referenced, d.modified)

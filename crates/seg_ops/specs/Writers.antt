@@ -15,6 +15,6 @@ pub record WasWriter (places : List (Option Translation)) (t : Translation) : Ty
   pub page : was.page ≡ t.page
   pub writable : was.writable ≡ t.writable
 
--- Each that may write now could write before.
+-- Each translation that may write now could write before.
 abbrev pub WritersStay : List (Option Translation) → List (Option Translation) → Type 0
 WritersStay old new = (place : ℕ) (t : Translation) → slice_index_or new place None ≡ Some t → t.writable ≡ true → WasWriter old t

@@ -12,11 +12,12 @@ use Rattle.seg_ops.specs.vm_world.declared.segment.Segment.{Segment}
 use Rattle.seg_ops.specs.vm_world.declared.wants.Wants.{Wants}
 use Rattle.seg_ops.specs.CleanSteps.{CleansPage}
 
--- The file that an object is, and the one whose pages a shared segment shows; none where there is none.
+-- The file that an object is; none where it is no file.
 abbrev pub object_file : Object → Option ℕ
 object_file (object.File f) = Some f
 object_file o = None
 
+-- The file whose pages a segment without a map of its own shows; none where it shows none.
 abbrev pub shared_file : Segment → Option ℕ
 shared_file s = if is_some s.own then None else object_file s.object
 
@@ -27,13 +28,15 @@ pub record SharesFilePage (w : World) (x : Spot) (name : PageName) : Type 0 wher
   pub is : shown_name w.maps x ≡ Some name
   pub file : name.object ≢ 64
 
--- The place shows such a page that isn't clean, and this must come first of it.
+-- The place shows a page of a file that a Sync wants clean and that isn't, and this must come first
+-- of it.
 pub record WantsFirst (m : Memory) (x : Spot) (want : Wants) : Type 0 where
   pub name : PageName
   pub shows : SharesFilePage m.world x name
   pub first : CleansPage m name (Some want)
 
--- Each such page at the places of a segment from one up to another is clean; or this one of the places shows one that isn't, and this must come first of it.
+-- Each page of a file that the places of a shared segment show, from one up to another, is clean;
+-- or this one of the places shows one that isn't, and this must come first of it.
 abbrev pub CleansPlaces : Memory → Segment → ℕ → ℕ → Option (ℕ × Wants) → Type 0
 CleansPlaces m s from to None = (at : ℕ) (name : PageName) → from ≤ at → at < to → SharesFilePage m.world (s, at) name → IsCleanPage m.world name
 CleansPlaces m s from to (Some r) = (from ≤ r.0) × (r.0 < to) × WantsFirst m (s, r.0) r.1

@@ -28,10 +28,11 @@ pub record ChangesSpace (p : ℕ) (old new : Memory) (zeros : List (Option ℕ))
   pub changes : ChangesSegments p old new f
   pub known : KnowsZeros zeros new.spaces
 
--- The process may be alive with these parts in the world; and some process may.
+-- The process may be alive with these parts in the world.
 abbrev pub MayBeAlive : {D : Type 0} → rust.World D → ℕ → List (Part Segment) → Type 0
 MayBeAlive w p parts = (spaces : Spaces) × SpaceFits (world_seen w) w.zeros spaces p parts
 
+-- Some process may be alive with these parts in the world.
 abbrev pub MayBeSpace : {D : Type 0} → rust.World D → List (Part Segment) → Type 0
 MayBeSpace w parts = (spaces : Spaces) × (process : ℕ) × SpaceFits (world_seen w) w.zeros spaces process parts
 

@@ -82,13 +82,15 @@ abbrev pub ShowsZeros : World → Option PageName → Type 0
 ShowsZeros w None = Unit {0}
 ShowsZeros w (Some name) = (residence w.store name ≡ Absent) × IsTrue (is_unpushed w.files w.anon name) × IsTrue (page_exists w.files w.anon name)
 
--- The slot is one that other places hold too, with this page; or with one that has these bytes; or with one of zeros that no frame holds.
+-- The slot is one that other places hold too, and the page is its own.
 abbrev pub IsSharedSlot : {D : Type 0} → rust.World D → PageName → ℕ → Type 0
 IsSharedSlot w name s = (1 < count_at w.anon s) × (name ≡ slot_name s)
 
+-- The slot is one that other places hold too, and its page has these bytes.
 abbrev pub IsCopiedSlot : {D : Type 0} → rust.World D → Page → ℕ → Type 0
 IsCopiedSlot w bytes s = (1 < count_at w.anon s) × HasBytes (world_seen w) (slot_name s) bytes
 
+-- The slot is one that other places hold too, and its page is zeros that no frame holds.
 abbrev pub IsSharedBlank : {D : Type 0} → rust.World D → ℕ → Type 0
 IsSharedBlank w s = (1 < count_at w.anon s) × (residence w.store (slot_name s) ≡ Absent) × IsTrue (is_unpushed w.files w.anon (slot_name s))
 
@@ -120,31 +122,37 @@ pub record GetsOwn (old new : World) (pending more m i : ℕ) (slot : Option ℕ
       → next_name old.store ≡ None → CellShows old spaces x slot bytes
       → ChangesMemory p (record { world = old; spaces = spaces }) (record { world = new; spaces = spaces }) (λ F. with_own_shown F p q)
 
--- The place is the own one of this page of some process; it gets a slot, with these bytes; and what a store that needs one comes to.
+-- The place is the own one of this page of some process.
 abbrev pub IsOwnSpot : {D : Type 0} → rust.World D → ℕ → ℕ → OwnPlace → Type 0
 IsOwnSpot w p q own = (spaces : Spaces) × (x : Spot) × Fits w spaces × OwnSpot spaces p q own.map own.place x
 
+-- The own place gets a slot, with these bytes, by the world before and after.
 abbrev pub GivesOwn : {D : Type 0} → rust.World D → rust.World D → OwnPlace → Page → ℕ → Type 0
 GivesOwn old new own bytes s = GetsOwn (world_seen old) (world_seen new) old.pending new.pending own.map own.place own.slot bytes s
 
+-- What a store comes to that needs a slot for the own place of its page, whatever the spaces.
 abbrev pub ServesCopy : {D : Type 0} → rust.World D → rust.World D → ℕ → ℕ → OwnPlace → Option PageName → Result Fault Wants → Type 0
 ServesCopy old new p q own shown answer =
     (spaces : Spaces) (x : Spot) → Fits old spaces → CopyPlace (world_seen old) spaces p q x own.map own.place own.slot shown → FaultServed old new spaces p q x true answer
 
--- The place of a segment at which a fault is; that the world fits there; and what the fault comes to.
+-- The place of a segment at which a fault is.
 abbrev pub faulted_spot : Segment → PageFault → Spot
 faulted_spot s fault = (s, fault.place)
 
+-- The world fits where the page of the fault shows its place of the segment.
 abbrev pub IsFaultAt : {D : Type 0} → rust.World D → Segment → PageFault → Type 0
 IsFaultAt w s fault = IsFitAt w fault.process fault.page (faulted_spot s fault)
 
+-- What the fault comes to, whatever the spaces in which its page shows the place of the segment.
 abbrev pub ServesAt : {D : Type 0} → rust.World D → rust.World D → Segment → PageFault → Result Fault Wants → Type 0
 ServesAt old new s fault answer = FaultServedAt old new fault.process fault.page (faulted_spot s fault) fault.write answer
 
--- The place shows zeros, for which this place of this map is; and what a fault there comes to.
+-- The place of the fault shows zeros, for which this place of this map is, in some spaces.
 abbrev pub IsZerosAt : {D : Type 0} → rust.World D → Segment → PageFault → ℕ → ℕ → Type 0
 IsZerosAt w s fault map place = (spaces : Spaces) × Fits w spaces × (spot_at spaces fault.process fault.page ≡ Some (faulted_spot s fault)) × ZerosPlace (world_seen w) spaces (faulted_spot s fault) map place
 
+-- What a fault comes to whose place shows zeros, for which this place of this map is, whatever the
+-- spaces.
 abbrev pub ServesZeros : {D : Type 0} → rust.World D → rust.World D → Segment → PageFault → ℕ → ℕ → Result Fault Wants → Type 0
 ServesZeros old new s fault map place answer = (spaces : Spaces) → Fits old spaces → spot_at spaces fault.process fault.page ≡ Some (faulted_spot s fault) → ZerosPlace (world_seen old) spaces (faulted_spot s fault) map place
     → FaultServed old new spaces fault.process fault.page (faulted_spot s fault) fault.write answer

@@ -28,7 +28,8 @@ pub record LosesWithPages (p first n : ℕ) (old new : Memory) : Type 0 where
   pub changes : ChangesSegments p old new f
   pub goes : (born : set.FinSet nat_cmp) (notes : Notes) → without_pages (f (flat_memory old born notes)) p first n ≡ without_pages (flat_memory old born notes) p first n
 
--- Whatever the spaces in which the segment is such a part, this changes.
+-- Whatever the spaces in which the segment is a part without translations, flat memory changes in
+-- what goes with its cells alone.
 abbrev pub LosesPart : {D : Type 0} → rust.World D → rust.World D → ℕ → ℕ → Segment → Type 0
 LosesPart old new p first s = (spaces : Spaces) → IsUnloadedPart (world_seen old) spaces p first s → LosesWithPages p first s.pages (memory old spaces) (memory new spaces)
 

@@ -21,6 +21,8 @@ pub record ZerosPlace (w : World) (spaces : Spaces) (x : Spot) (m i : ℕ) : Typ
   pub zero : IsNewZero spaces m i
   pub new : ((x.0.object ≡ object.NewZero) × (x.0.own ≡ Some m) × (x.1 ≡ i)) ⊎ ((x.0.shown ≡ Some m) × (x.0.index + x.1 ≡ i) × (z : ℕ) × (x.0.object ≡ object.Zero z))
 
+-- What the object of a place shows there: a page that exists; zeros, for which an empty place of a
+-- map is made; or nothing, past its end.
 abbrev pub ObjectShows : World → Spaces → Spot → Shown → Type 0
 ObjectShows w spaces x (Page name) =
     (object_name w.maps x.0.shown (x.0.index + x.1) x.0.object ≡ Some name) × IsTrue (page_exists w.files w.anon name) × IsTrue (object_has w x.0.shown (x.0.index + x.1) x.0.object)

@@ -5,7 +5,7 @@ use Rattle.std.specs.FinMap as finite
 use Rattle.std.proofs.lemmas.Bool.{cases_eq}
 use Rattle.std.proofs.lemmas.List.{length-set, get_or-set_same, get_or-set_other}
 use Rattle.std.proofs.lemmas.Option.{slice_get_within}
-use Rattle.block_device.specs.DiskSeen.{DiskSeen, HasBlocks, with_block}
+use Rattle.block_device.specs.DiskSeen.{DiskSeen, HasBlocks, failures_told, with_block}
 use Rattle.volume_format.specs.vnode_files.Files.{FilesSeen}
 use Rattle.volume_format.specs.vnode_files.declared.vnode.FileInfo.{FileInfo}
 use Rattle.volume_format.specs.Rules.{reading}
@@ -16,6 +16,7 @@ use Rattle.stored_files.specs.declared.closing.TableStop.TheVariants.{Memory, Fa
 use Rattle.stored_files.specs.Closed.{SaysItsTable, SaysTable, SayTables, table_of_disk}
 use Rattle.stored_files.specs.Written.{HaveDisks, HaveFirstBlocks, KeepsBlocks, WriteTables, WroteTablesAt, WroteTablesTo, IsTableStop}
 use Rattle.stored_files.specs.DiskTables.{IsOneTableStop, TablesSoFar}
+use Rattle.stored_files.proofs.Uncut.{counts-put}
 use Rattle.stored_files.proofs.EachDisk.{Each, each_same, each_put, each_then, one_at, put_here, put_other, was_before}
 
 pub keeps_same : (d : DiskSeen) → KeepsBlocks d d
@@ -73,7 +74,7 @@ pub each_from : (old new : List (ℕ × DiskSeen)) → WriteTables old new → E
 each_from old new all = record { count = all.count; numbers = all.numbers; each = all.each }
 
 pub tables_begin : (infos : List FileInfo) (ds : List (ℕ × DiskSeen)) → TablesSoFar infos 0 ds ds
-tables_begin infos ds = record { writes = writes_from ds ds (each_same KeepsBlocks keeps_same ds); said = λ i d none at. absurd (omega (arith, none)); behind = λ i low. refl }
+tables_begin infos ds = record { writes = writes_from ds ds (each_same KeepsBlocks keeps_same ds); said = λ i d none at. absurd (omega (arith, none)); behind = λ i low. refl; uncounted = refl }
 
 module _ (infos : List FileInfo) (place : ℕ) (old mid : List (ℕ × DiskSeen)) (d e : ℕ × DiskSeen) (at : slice_get mid place ≡ Some d) (number : e.0 ≡ d.0)
     (keeps : KeepsBlocks d.1 e.1) (so : TablesSoFar infos place old mid) where
@@ -83,14 +84,15 @@ module _ (infos : List FileInfo) (place : ℕ) (old mid : List (ℕ × DiskSeen)
   pub tables_write : WriteTables old (slice_set mid place e)
   tables_write = writes_from old (slice_set mid place e) (each_then KeepsBlocks keeps_then old mid (slice_set mid place e) (each_from old mid so.writes) put)
 
-  pub tables_step : SaysItsTable infos e → TablesSoFar infos (place + 1) old (slice_set mid place e)
-  tables_step says = record {
+  pub tables_step : SaysItsTable infos e → failures_told e.1 ≡ failures_told d.1 → TablesSoFar infos (place + 1) old (slice_set mid place e)
+  tables_step says steady = record {
     writes = tables_write;
     said = λ i x low there. elim (cases_eq i place) [
       | inl same ↦ subst (SaysItsTable infos) (one_at (slice_set mid place e) place e x (put_here mid place d e at) (ap (slice_get (slice_set mid place e)) (sym same) ∙ there)) says
       | inr other ↦ so.said i x (omega (arith, low, other)) (sym (put_other mid place i e other) ∙ there)
     ];
     behind = λ i low. put_other mid place i e (λ same. omega (arith, low, same)) ∙ so.behind i (omega (arith, low));
+    uncounted = counts-put mid place d e at steady ∙ so.uncounted;
   }
 
   -- up to this disk, whatever became of it
@@ -110,6 +112,7 @@ module _ (infos : List FileInfo) (place : ℕ) (old mid : List (ℕ × DiskSeen)
           ∙ ap (slice_get old) (sym here)
       | inr other ↦ put_other mid place i e other ∙ so.behind i low
     ];
+    uncounted = counts-put mid place d e at (ap (λ (x : ℕ × DiskSeen). failures_told x.1) same) ∙ so.uncounted;
   }
 
   pub tables_stop : (stop : TableStop) → IsOneTableStop d e stop → IsTableStop infos old (slice_set mid place e) stop

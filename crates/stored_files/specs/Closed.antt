@@ -22,6 +22,7 @@ info_on disk info = record info { disk = disk }
 abbrev pub info_in_flat : List ℕ → File → FileInfo
 info_in_flat name file = record { name = name; disk = file.disk; extents = file.extents; length = file.len; writable = file.writable }
 
+-- The records of files with these names in turn, as flat memory has them.
 abbrev pub infos_in_flat : List (List ℕ) → List File → List FileInfo
 infos_in_flat [] files = []
 infos_in_flat (name ∷ names) [] = []
@@ -31,6 +32,7 @@ infos_in_flat (name ∷ names) (file ∷ files) = info_in_flat name file ∷ inf
 abbrev pub mode_in : FileInfo → List ℕ × ℕ × Bool
 mode_in info = (info.name, info.disk, info.writable)
 
+-- What no call changes of each file's record: its name, its disk and its mode.
 abbrev pub modes_in : List FileInfo → List (List ℕ × ℕ × Bool)
 modes_in infos = map mode_in infos
 
@@ -38,6 +40,7 @@ modes_in infos = map mode_in infos
 abbrev pub table_entries : ℕ → List FileInfo → List FileInfo
 table_entries disk infos = fold with_table_entry [] (map (info_on 0) (filter (λ i. i.disk == disk) infos))
 
+-- The table of a disk with so many blocks: those of the files that lie on it.
 abbrev pub table_of_disk : ℕ → ℕ → List FileInfo → TableSeen
 table_of_disk disk blocks infos = record { blocks = blocks; entries = table_entries disk infos }
 
@@ -50,6 +53,7 @@ pub record SaysTable (disk size : ℕ) (infos : List FileInfo) (block : List ℕ
 abbrev pub StoresFile : ℕ × DiskSeen → FileInfo → List ℕ → Type 0
 StoresFile disk info bytes = info.disk ≡ disk.0 → IfSome disk.1.content (λ blocks. stored_bytes blocks info ≡ bytes)
 
+-- The record of file k, or one without a name if there are fewer files.
 abbrev pub info_at : List FileInfo → ℕ → FileInfo
 info_at infos k = slice_index_or infos k no_entry
 
@@ -62,7 +66,7 @@ StoreFiles disks infos bytes =
 abbrev pub SaysItsTable : List FileInfo → ℕ × DiskSeen → Type 0
 SaysItsTable infos disk = IfSome disk.1.content (λ blocks. SaysTable disk.0 disk.1.size infos (slice_index_or blocks 0 []))
 
--- Each disk does.
+-- Each disk that tells says the table of its files in block 0.
 abbrev pub SayTables : List (ℕ × DiskSeen) → List FileInfo → Type 0
 SayTables disks infos = (i : ℕ) (disk : ℕ × DiskSeen) → slice_get disks i ≡ Some disk → SaysItsTable infos disk
 

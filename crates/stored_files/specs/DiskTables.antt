@@ -12,6 +12,7 @@ use Rattle.stored_files.specs.declared.closing.TableStop.{TableStop}
 use Rattle.stored_files.specs.declared.closing.TableStop.TheVariants as table
 use Rattle.stored_files.specs.Written.{HaveVolumeNames}
 use Rattle.stored_files.specs.Closed.{SaysItsTable, table_entries}
+use Rattle.stored_files.specs.Uncut.{counts_of}
 use Rattle.stored_files.specs.Written.{infos_made}
 use Rattle.stored_files.specs.Written.{LieWell, HaveExtents, WriteTables}
 
@@ -41,8 +42,9 @@ abbrev pub IsOneTableStop : ℕ × DiskSeen → ℕ × DiskSeen → TableStop �
 IsOneTableStop old new table.Memory = new ≡ old
 IsOneTableStop old new (table.Fault f) = IsFaultOf old.0 old.1 new.1 f × HasRisen old.1.faults new.1.faults
 
--- The tables of so many disks were written; the disks behind them are as they were.
+-- The tables of so many disks were written; the disks behind them are as they were, and none tells a failure more.
 pub record TablesSoFar (infos : List FileInfo) (place : ℕ) (old now : List (ℕ × DiskSeen)) : Type 0 where
   pub writes : WriteTables old now
   pub said : (i : ℕ) (d : ℕ × DiskSeen) → i < place → slice_get now i ≡ Some d → SaysItsTable infos d
   pub behind : (i : ℕ) → place ≤ i → slice_get now i ≡ slice_get old i
+  pub uncounted : counts_of now ≡ counts_of old

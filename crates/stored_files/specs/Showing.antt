@@ -23,6 +23,7 @@ pub record LiesOn (files : FilesSeen) (file : ℕ) (disk : ℕ × DiskSeen) : Ty
   pub number : disk.0 ≡ (vnode_at files file).info.disk
   pub size : finite.get files.disks (vnode_at files file).info.disk ≡ Some disk.1.size
 
+-- The record of a file.
 abbrev pub shown_info : FilesSeen → ℕ → FileInfo
 shown_info files file = (vnode_at files file).info
 
@@ -68,6 +69,7 @@ AreLinesShown text front pages k0 k1 is_fault counts (Err (show.Fault f)) = is_f
 abbrev pub lines_before : List ℕ → ℕ → List ℕ
 lines_before bytes page = file_lines 0 (take (4096 * page) bytes)
 
+-- The lines of these bytes were written, or why not.
 abbrev pub LinesShow : List ℕ → SinkSeen → SinkSeen → (FaultCounts → Type 0) → {F : Type 0} → (F → FaultCounts) → Result (Unit {0}) (ShowStop F) → Type 0
 LinesShow bytes k0 k1 is_fault counts result = AreLinesShown (file_lines 0 bytes) (lines_before bytes) (pages_in (length bytes)) k0 k1 is_fault counts result
 
@@ -92,9 +94,11 @@ IsHeadingShown text k0 k1 (Err show.Memory) = k1 ≡ k0
 IsHeadingShown text k0 k1 (Err show.Sink) = HasRisen k0.faults k1.faults × WrotePart k0 k1 text
 IsHeadingShown text k0 k1 (Err (show.Fault f)) = ⊥
 
+-- The heading of a file and the lines of its bytes up to the place of a page.
 abbrev pub section_before : Heading → ℕ → FileInfo → List ℕ → ℕ → List ℕ
 section_before heading file info bytes page = file_section heading file info (take (4096 * page) bytes)
 
+-- The heading of a file and the lines of these bytes were written, or why not.
 abbrev pub FileShows : Heading → ℕ → FileInfo → List ℕ → SinkSeen → SinkSeen → (FaultCounts → Type 0) → {F : Type 0} → (F → FaultCounts) → Result (Unit {0}) (ShowStop F) → Type 0
 FileShows heading file info bytes k0 k1 is_fault counts result =
     AreLinesShown (file_section heading file info bytes) (section_before heading file info bytes) (pages_in (length bytes)) k0 k1 is_fault counts result
@@ -106,10 +110,12 @@ pub record FileShown (heading : Heading) (file : ℕ) (info : FileInfo) (k0 k1 :
   pub are : AreFileBytes d0.1 info bytes
   pub shown : FileShows heading file info bytes k0 k1 (HasLastFault d0.1.faults d1) counts result
 
--- The same, on one of these disks: a fault is that of the disk of this number.
+-- A fault is that of the disk of this number, one of these, and its count rose since the start.
 abbrev pub IsFaultAmong : List (ℕ × DiskSeen) → List (ℕ × DiskSeen) → ℕ → FaultCounts → Type 0
 IsFaultAmong old new number f = (f.number ≡ number) × IsCountedSince old new f
 
+-- A file was shown, whose bytes are those that the disk of these on which it lies has, where that
+-- tells.
 pub record FileShownAmong (heading : Heading) (file : ℕ) (info : FileInfo) (k0 k1 : SinkSeen) (old new : List (ℕ × DiskSeen)) {F : Type 0}
     (counts : F → FaultCounts) (result : Result (Unit {0}) (ShowStop F)) : Type 0 where
   pub bytes : List ℕ

@@ -14,6 +14,7 @@ use Rattle.stored_files.specs.declared.showing.Heading.{Heading}
 use Rattle.stored_files.specs.declared.showing.Heading.TheVariants.{Report, Trace}
 use Rattle.stored_files.specs.Closed.{info_at}
 
+-- The first block and the number of blocks of each extent.
 abbrev pub extent_pairs : List Extent → List (ℕ × ℕ)
 extent_pairs extents = map (λ e. (e.start, e.pages)) extents
 
@@ -31,6 +32,7 @@ abbrev pub files_from : Heading → (ℕ → List ℕ) → ℕ → List FileInfo
 files_from heading bytes k [] = []
 files_from heading bytes k (info ∷ infos) = file_section heading k info (bytes k) ++ files_from heading bytes (k + 1) infos
 
+-- The sections of all files from number 0 on, with the bytes of each.
 abbrev pub file_sections : Heading → List FileInfo → (ℕ → List ℕ) → List ℕ
 file_sections heading infos bytes = files_from heading bytes 0 infos
 
@@ -45,7 +47,7 @@ pub record IsPageUnread (infos : List FileInfo) (file page disk : ℕ) : Type 0 
   pub below : page < pages_in (info_at infos file).length
   pub lies : (info_at infos file).disk ≡ disk
 
--- A trace before its files.
+-- The lines of a trace before its files: slots, disks of these sizes, and top processes.
 abbrev pub trace_front : PlanSeen → List (ℕ × ℕ) → List ℕ
 trace_front plan sizes = opening_text (amounts_of plan.setup).slots sizes (kernel_parents plan)
 

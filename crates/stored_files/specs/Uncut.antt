@@ -4,7 +4,7 @@ use Rattle.block_device.specs.DiskSeen.{DiskSeen, failures_told}
 use Rattle.stored_files.specs.declared.showing.ShowStop.{ShowStop}
 use Rattle.stored_files.specs.declared.showing.ShowStop.TheVariants as show
 
--- As files are shown: unless the sink or a disk failed.
+-- This holds, unless a showing of files stopped since the sink or a disk failed.
 abbrev pub UnlessCut : {T F : Type 0} → Result T (ShowStop F) → Type 0 → Type 0
 UnlessCut (Ok done) P = P
 UnlessCut (Err show.Memory) P = P

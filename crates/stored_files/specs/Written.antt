@@ -20,12 +20,14 @@ use Rattle.stored_files.specs.declared.closing.TableStop.TheVariants as table
 use Rattle.stored_files.specs.declared.showing.ShowStop.{ShowStop}
 use Rattle.stored_files.specs.declared.showing.ShowStop.TheVariants as show
 use Rattle.stored_files.specs.Closed.{SaysItsTable, StoresFile, info_at}
+use Rattle.stored_files.specs.Uncut.{counts_of}
 use Rattle.stored_files.specs.Texts.{Wrote, WroteFront, WrotePart, IsPageUnread, file_sections, sections_before, trace_front}
 
+-- A disk with its number, as it is seen.
 abbrev pub numbered_seen : {D : Type 0} → (D → DiskSeen) → NumberedDisk D → ℕ × DiskSeen
 numbered_seen seen d = (d.number, seen d.disk)
 
--- Disks that stand with their numbers.
+-- Disks with their numbers, as they are seen.
 abbrev pub paired_seen : {D : Type 0} → (D → DiskSeen) → List (ℕ × D) → List (ℕ × DiskSeen)
 paired_seen seen disks = map (λ disk. (disk.0, seen disk.1)) disks
 
@@ -35,10 +37,11 @@ pub record FaultCounts : Type 0 where
   pub before : ℕ
   pub after : ℕ
 
--- What a fault of a disk tells once the machine runs, and before.
+-- What a fault of a disk tells while the machine runs.
 abbrev pub disk_fault_counts : DiskFault → FaultCounts
 disk_fault_counts f = record { number = f.disk; before = f.before; after = f.after }
 
+-- What a fault of a disk tells before the machine runs: counts of 0 where it has none.
 abbrev pub open_fault_counts : OpenFaultSeen → FaultCounts
 open_fault_counts f = let both = unwrap_or f.counts (0, 0) in record { number = f.disk; before = both.0; after = both.1 }
 
@@ -46,7 +49,8 @@ open_fault_counts f = let both = unwrap_or f.counts (0, 0) in record { number = 
 abbrev pub infos_made : FilesSeen → List FileInfo
 infos_made files = map (λ (v : VnodeSeen). v.info) files.files
 
--- How the files lie on their disks.
+-- The files lie well: few enough, each sound, on disks that were set, with no block in common and
+-- few extents.
 pub record LieWell (files : FilesSeen) : Type 0 where
   pub few_files : length files.files ≤ 64
   pub sound : All IsSoundVnode files.files
@@ -95,6 +99,7 @@ pub record OnlyReads (old new : DiskSeen) : Type 0 where
   pub kind : new.kind ≡ old.kind
   pub faults : old.faults ≤ new.faults
 
+-- Disks that are only read: they keep their numbers and their order, and no block of one changes.
 pub record AreOnlyRead (old new : List (ℕ × DiskSeen)) : Type 0 where
   pub count : length new ≡ length old
   pub numbers : map (λ (d : ℕ × DiskSeen). d.0) new ≡ map (λ (d : ℕ × DiskSeen). d.0) old
@@ -107,7 +112,8 @@ pub record HasLastFault (low : ℕ) (disk : ℕ × DiskSeen) (f : FaultCounts) :
   pub since : low ≤ f.before
   pub last : f.after ≡ disk.1.faults
 
--- It is that of one of these disks, which had counted no fewer faults before it than at the start.
+-- A fault is that of the last transfer of one of these disks, which counted no fewer faults before
+-- it than at the start.
 pub record IsCountedSince (old new : List (ℕ × DiskSeen)) (f : FaultCounts) : Type 0 where
   pub i : ℕ
   pub was : ℕ × DiskSeen
@@ -127,10 +133,12 @@ pub record WroteTablesTo (infos : List FileInfo) (place : ℕ) (old new : List (
   pub before : (i : ℕ) (d : ℕ × DiskSeen) → i < place → slice_get new i ≡ Some d → SaysItsTable infos d
   pub behind : (i : ℕ) → place < i → slice_get new i ≡ slice_get old i
 
--- The tables were written up to a place, and nothing else: each disk before it says that of its files, and it and each behind it are as they were.
+-- The tables were written up to a place, and nothing else: each disk before it says that of its files, and it and each behind it are as they were; and no disk
+-- tells a failure more.
 pub record WroteTablesAt (infos : List FileInfo) (place : ℕ) (old new : List (ℕ × DiskSeen)) : Type 0 where
   pub before : (i : ℕ) (d : ℕ × DiskSeen) → i < place → slice_get new i ≡ Some d → SaysItsTable infos d
   pub behind : (i : ℕ) → place ≤ i → slice_get new i ≡ slice_get old i
+  pub uncounted : counts_of new ≡ counts_of old
 
 -- Why a table wasn't written: memory lacked, and the tables were written up to a place, and nothing else; or the last transfer of a disk failed, and they were
 -- written up to that disk's place.
@@ -157,6 +165,7 @@ ShowsSections heading infos bytes k0 k1 old new counts (Err stop) = IsShowStop h
 abbrev pub IsReadFault : {F : Type 0} → (F → FaultCounts) → ℕ × DiskSeen → ℕ × DiskSeen → F → Type 0
 IsReadFault counts old new f = counts f ≡ record { number = old.0; before = old.1.faults; after = new.1.faults }
 
+-- The number and the size of each disk.
 abbrev pub disk_sizes : List (ℕ × DiskSeen) → List (ℕ × ℕ)
 disk_sizes disks = map (λ (d : ℕ × DiskSeen). (d.0, d.1.size)) disks
 

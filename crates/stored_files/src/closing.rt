@@ -1,9 +1,11 @@
 //! The tables of the disks are written.
 ghost use Rattle.std.specs.Prelude.{◌≡◌, ◌<◌, length, Some, IfErr, OnOk};
 ghost use Rattle.std.specs.FinMap as finite;
+ghost use Rattle.block_device.specs.DiskSeen.{failures_told};
 ghost use Rattle.stored_files.specs.Written.{HaveVolumeNames, paired_seen};
 ghost use Rattle.stored_files.specs.Closed.{SayTables, SaysItsTable};
 ghost use Rattle.stored_files.specs.DiskTables.{MakeTables, IsOneTableStop};
+ghost use Rattle.stored_files.specs.Uncut.{counts_of};
 ghost use Rattle.stored_files.specs.Written.{infos_made};
 ghost use Rattle.stored_files.specs.Written.{LieWell, HaveDisks, HaveExtents, HaveFirstBlocks, KeepsBlocks, WriteTables, IsTableStop};
 
@@ -37,6 +39,8 @@ fn write_table<D: Disk>(
         (SaysItsTable (infos_made files.now) (disk.new.0, D.seen disk.new.1)) }
     ensures number { disk.new.0 ≡ disk.old.0 }
     ensures keeps { KeepsBlocks (D.seen disk.old.1) (D.seen disk.new.1) }
+    ensures steady { OnOk result
+        (failures_told (D.seen disk.new.1) ≡ failures_told (D.seen disk.old.1)) }
     // Why it doesn't.
     ensures stop { IfErr result
         (IsOneTableStop (disk.old.0, D.seen disk.old.1) (disk.new.0, D.seen disk.new.1)) }
@@ -65,6 +69,8 @@ pub fn write_tables<D: Disk>(
     // Each disk says its table, and every block but block 0 is as it was.
     ensures tables { OnOk result (SayTables (paired_seen D.seen disks.new) (infos_made files.now)) }
     ensures keeps { WriteTables (paired_seen D.seen disks.old) (paired_seen D.seen disks.new) }
+    ensures uncounted { OnOk result (counts_of (paired_seen D.seen disks.new)
+        ≡ counts_of (paired_seen D.seen disks.old)) }
     // Why a table wasn't written, and up to which disk they were.
     ensures stop { IfErr result (IsTableStop (infos_made files.now)
         (paired_seen D.seen disks.old) (paired_seen D.seen disks.new)) }

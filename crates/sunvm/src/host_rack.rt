@@ -4,10 +4,11 @@ ghost use Rattle.sunvm.specs.BlankDisks.{blank_disk_seen, fresh_blank_disk};
 ghost use Rattle.sunvm.specs.HostSeen.{HostRackSeen};
 
 use crate::blank_disk::BlankDisk;
+use crate::explaining::Unopened;
 use crate::host_disk::HostDisk;
-use disk_file::{Rack, RackFault, Spec};
+use block_device::{PathText, Rack, RackFault, Spec};
 use std::alloc::Global;
-use std::fs::File;
+use std::fs::{File, OpenFile, OpenOptions};
 use std::marker::Model;
 use std::rt::Files;
 
@@ -19,6 +20,7 @@ pub struct HostRack<'a, R: Files<File = File>> {
     files: &'a R,
     faults: u64,
     attached: u64,
+    unopened: Option<Unopened>,
 }
 
 impl<'a, R: Files<File = File>> Model for HostRack<'a, R> {
@@ -39,7 +41,27 @@ impl<'a, R: Files<File = File>> HostRack<'a, R> {
             files,
             faults: 0,
             attached: 0,
+            unopened: None,
         }
+    }
+
+    /// Why the file of the last disk that it didn't attach couldn't be opened.
+    pub fn unopened(&self) -> Option<Unopened> {
+        self.unopened
+    }
+}
+
+// Why the file at a path couldn't be opened as a disk: it is tried once more.
+fn why_unopened<R: Files<File = File>>(files: &R, path: &PathText) -> Unopened {
+    let Ok(path) = str::from_utf8(path.bytes()) else {
+        return Unopened::Other;
+    };
+    match OpenOptions::new().read(true).write(true).open(files, path) {
+        Ok(file) => match file.metadata() {
+            Ok(found) if found.is_file() => Unopened::Other,
+            _ => Unopened::NoFile,
+        },
+        Err(error) => Unopened::Refused(error.kind()),
     }
 }
 
@@ -88,7 +110,10 @@ impl<R: Files<File = File>> Rack for HostRack<'_, R> {
                         self.attached = attached;
                         Ok(HostDisk::Path(disk))
                     }
-                    Err(_) => Err(RackFault::Failed),
+                    Err(_) => {
+                        self.unopened = Some(why_unopened(self.files, path));
+                        Err(RackFault::Failed)
+                    }
                 }
             }
         }

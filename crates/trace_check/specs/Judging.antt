@@ -21,7 +21,7 @@ pub record HasTaken (F : Flat) (H : List Entry) (judge : Judge) : Type 0 where
   pub holders : (f : ℕ) → get nat_cmp judge.holders f ≡ open_call f H
   pub starts : (p : ℕ) → unwrap_or (get nat_cmp judge.starts p) 0 ≡ first_start p H
 
--- It has seen the history, or found its first entry with which it isn't legal.
+-- The judge has seen the history, or found its first entry with which it isn't legal.
 abbrev pub HasJudged : Flat → List Entry → Judge → Type 0
 HasJudged F H judge = MatchOption judge.first (HasTaken F H judge) (IsFirstIllegal F H)
 

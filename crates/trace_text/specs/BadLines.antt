@@ -4,7 +4,7 @@ use Rattle.trace_text.specs.TraceLines.{fed_lines}
 use Rattle.trace_text.specs.Traces.{Trace, trace_text}
 use Rattle.trace_text.specs.TraceForm.{IsTrace}
 
--- The text is a trace's.
+-- The text is the text of a trace that keeps the form of traces.
 abbrev pub IsTextOfTrace : List ℕ → Type 0
 IsTextOfTrace text = (t : Trace) × IsTrace t × (text ≡ trace_text t)
 

@@ -8,16 +8,18 @@ use Rattle.vm_report.specs.vm_types.declared.call.Entry.{Entry}
 use Rattle.vm_report.specs.vm_types.WellFormed.{IsNumber, IsWellFormed}
 use Rattle.vm_report.specs.vm_types.Words.{IsByte, FitsWord}
 
--- Each number is below 2^64.
+-- The number is below 2^64.
 abbrev pub IsLongNumber : ℕ → Type 0
 IsLongNumber n = n < 2 ^ 64
 
--- A word is the reply of a Load alone, and fits its size.
+-- A word that a trace may tell as the reply to this call: the call is a load, and the word fits its
+-- size.
 abbrev pub IsLoadedWord : Call → ℕ → Type 0
 IsLoadedWord (call.Load a n) v = FitsWord n v
 IsLoadedWord c v = ⊥
 
--- An address of a mapping is the reply of a Map alone.
+-- An address that a trace may tell as the reply to this call: the call is a map, and the address is
+-- a number.
 abbrev pub IsMappedAddress : Call → ℕ → Type 0
 IsMappedAddress (call.Map place len prot kind object offset) a = IsNumber a
 IsMappedAddress c a = ⊥
@@ -33,7 +35,8 @@ IsReplyTo c (reply.Signal s) = Unit {0}
 IsReplyTo c (reply.Refused e) = Unit {0}
 IsReplyTo c (reply.Io disk before after) = IsNumber disk × IsLongNumber before × IsLongNumber after
 
--- An entry that a trace may tell.
+-- An entry that a trace may tell: its process and its mask fit their digits, its call is well
+-- formed, and its reply may be one to that call.
 pub record IsTracedEntry (e : Entry) : Type 0 where
   pub process : IsNumber e.process
   pub cleared : IsLongNumber e.cleared

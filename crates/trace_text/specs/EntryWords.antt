@@ -16,11 +16,13 @@ use Rattle.vm_report.specs.Texts.{word_text, call_word}
 use Rattle.vm_report.specs.Results.{word_size}
 use Rattle.vm_report.specs.Trace.{place_word}
 
+-- The words of a mapped object: what it is, and its number unless it is new.
 abbrev pub object_parts : Object → List (List ℕ)
 object_parts (object.File file) = codes "file" ∷ decimal file ∷ []
 object_parts object.NewZero = codes "newzero" ∷ []
 object_parts (object.Zero z) = codes "zero" ∷ decimal z ∷ []
 
+-- The words of a call's arguments, in their order.
 abbrev pub argument_words : Call → List (List ℕ)
 argument_words (call.Load a n) = word_text 4 a ∷ decimal n ∷ []
 argument_words (call.Store a n v) = word_text 4 a ∷ decimal n ∷ word_text n v ∷ []
@@ -34,20 +36,25 @@ argument_words (call.Truncate file len) = decimal file ∷ decimal len ∷ []
 argument_words (call.Fork child) = decimal child ∷ []
 argument_words call.Exit = []
 
+-- The words of bytes that were read: `bytes`, how many, and their digits unless there are none.
 abbrev pub bytes_words : List ℕ → List (List ℕ)
 bytes_words bytes = codes "bytes" ∷ decimal (length bytes) ∷ (if length bytes == 0 then [] else hex_text bytes ∷ [])
 
+-- The two words of a signal: `SEGV` or `BUS`, and its cause.
 abbrev pub signal_words : Signal → List (List ℕ)
 signal_words signal.NoMap = codes "SEGV" ∷ codes "nomap" ∷ []
 signal_words signal.Prot = codes "SEGV" ∷ codes "prot" ∷ []
 signal_words signal.Align = codes "BUS" ∷ codes "align" ∷ []
 signal_words signal.Past = codes "BUS" ∷ codes "past" ∷ []
 
+-- The first word of a failed transfer's reply: `BUS` for a load or a store, `error` for another
+-- call.
 abbrev pub io_source : Call → List ℕ
 io_source (call.Load a n) = codes "BUS"
 io_source (call.Store a n v) = codes "BUS"
 io_source c = codes "error"
 
+-- The words of a reply to a call.
 abbrev pub reply_words : Call → Reply → List (List ℕ)
 reply_words c reply.Done = codes "ok" ∷ []
 reply_words c (reply.Word v) = word_text (word_size c) v ∷ []
@@ -58,8 +65,10 @@ reply_words c (reply.Signal s) = signal_words s
 reply_words c (reply.Refused e) = codes "error" ∷ decimal (errno_number e) ∷ errno_name e ∷ []
 reply_words c (reply.Io disk before after) = io_source c ∷ codes "io" ∷ decimal disk ∷ decimal before ∷ decimal after ∷ []
 
+-- The words of a call: its own word, and those of its arguments.
 abbrev pub call_words : Call → List (List ℕ)
 call_words c = call_word c ∷ argument_words c
 
+-- The words of an entry's line: process, mask of cleared marks, call, `=` and reply.
 abbrev pub entry_words : Entry → List (List ℕ)
 entry_words e = decimal e.process ∷ hex_text (word_bytes 8 e.cleared) ∷ (call_words e.call ++ codes "=" ∷ reply_words e.call e.reply)

@@ -9,7 +9,7 @@ use Rattle.trace_text.specs.TraceForm.{IsTrace}
 use Rattle.trace_text.specs.TraceLines.{TraceLine, FileHead, Slots, Disk, Root, File, Piece, Entries, Act, trace_line_text, IsTraceLine}
 use Rattle.trace_text.specs.LineOrder.{LinePlace, AtOpening, AtDisks, AtRoots, InFile, AtEntries, place_after_all, files_lines}
 
--- Nothing is told.
+-- The trace of which nothing is told.
 abbrev pub untold : Trace
 untold = record { slots = 0; disks = []; roots = []; files = []; history = [] }
 
@@ -17,16 +17,17 @@ untold = record { slots = 0; disks = []; roots = []; files = []; history = [] }
 abbrev pub file_of_head : FileHead → TracedFile
 file_of_head x = record { name = x.name; writable = x.writable; disk = x.disk; extents = x.extents; bytes = replicate x.len 0 }
 
+-- A file with these bytes written over its own from an offset on.
 abbrev pub file_with_bytes : ℕ → List ℕ → TracedFile → TracedFile
 file_with_bytes offset bytes file = record file { bytes = with_bytes file.bytes offset bytes }
 
--- Files, the last of which has these bytes from an offset on.
+-- Files with these bytes written over those of the last one from an offset on.
 abbrev pub put_in_last : ℕ → List ℕ → List TracedFile → List TracedFile
 put_in_last offset bytes [] = []
 put_in_last offset bytes (f ∷ []) = file_with_bytes offset bytes f ∷ []
 put_in_last offset bytes (f ∷ g ∷ files) = f ∷ put_in_last offset bytes (g ∷ files)
 
--- What is told with a line more.
+-- What is told once a line more is read.
 abbrev pub tell : Trace → TraceLine → Trace
 tell t (Slots n) = record t { slots = n }
 tell t (Disk d) = record t { disks = t.disks ++ d ∷ [] }
@@ -41,7 +42,8 @@ abbrev pub RiseTo : ℕ → List ℕ → ℕ → Type 0
 RiseTo n [] least = n ≤ least
 RiseTo n (m ∷ ms) least = (n ≤ m) × IsNumber m × RiseTo (m + 1) ms least
 
--- Slots and disks are told.
+-- The slots and disks told form a trace, these are the numbers of the disks, the next is at least
+-- `least`, and nothing else is told.
 pub record DisksTold (t : Trace) (least : ℕ) (numbers : List ℕ) : Type 0 where
   pub trace : IsTrace t
   pub are : numbers ≡ map (λ d. d.0) t.disks
@@ -50,7 +52,8 @@ pub record DisksTold (t : Trace) (least : ℕ) (numbers : List ℕ) : Type 0 whe
   pub files : t.files ≡ []
   pub history : t.history ≡ []
 
--- Slots, disks and top processes are told.
+-- Slots, disks and top processes are told and form a trace, the next process is at least `least`,
+-- and no file or entry is told.
 pub record RootsTold (t : Trace) (least : ℕ) (numbers : List ℕ) : Type 0 where
   pub trace : IsTrace t
   pub are : numbers ≡ map (λ d. d.0) t.disks
@@ -58,7 +61,8 @@ pub record RootsTold (t : Trace) (least : ℕ) (numbers : List ℕ) : Type 0 whe
   pub files : t.files ≡ []
   pub history : t.history ≡ []
 
--- The last file has this length and zeros from an offset on at which a line of 32 bytes begins.
+-- The last of so many files has this length and zeros from `least` on, where a line of 32 bytes
+-- begins.
 pub record LastTold (files : List TracedFile) (count len least : ℕ) : Type 0 where
   pub before : List TracedFile
   pub file : TracedFile
@@ -68,19 +72,20 @@ pub record LastTold (files : List TracedFile) (count len least : ℕ) : Type 0 w
   pub zeros : list_all (λ b. b == 0) (drop least file.bytes) ≡ true
   pub even : least % 32 ≡ 0
 
--- Slots, disks, top processes and files are told, the last file up to an offset.
+-- Slots, disks, top processes and so many files are told, the last file up to `least`, and no
+-- entry.
 pub record FilesTold (t : Trace) (numbers : List ℕ) (count len least : ℕ) : Type 0 where
   pub trace : IsTrace t
   pub are : numbers ≡ map (λ d. d.0) t.disks
   pub last : LastTold t.files count len least
   pub history : t.history ≡ []
 
--- All but n entries are told.
+-- What is told is a trace, to which n entries more are to come.
 pub record EntriesTold (t : Trace) (n : ℕ) : Type 0 where
   pub trace : IsTrace t
   pub count : IsLongNumber (length t.history + n)
 
--- This much is told where these lines may follow.
+-- What is told of a trace where the next line stands at this place.
 abbrev pub IsTold : Trace → LinePlace → Type 0
 IsTold t AtOpening = t ≡ untold
 IsTold t (AtDisks least numbers) = DisksTold t least numbers
@@ -88,10 +93,11 @@ IsTold t (AtRoots least numbers) = RootsTold t least numbers
 IsTold t (InFile numbers count len least) = FilesTold t numbers count len least
 IsTold t (AtEntries n) = EntriesTold t n
 
+-- The lines of a trace before the number of entries.
 abbrev pub opening_lines : Trace → List TraceLine
 opening_lines t = Slots t.slots ∷ (map Disk t.disks ++ (map Root t.roots ++ files_lines 0 t.files))
 
--- The lines that tell it.
+-- The lines that tell so much of a trace, up to a place.
 abbrev pub lines_told : Trace → LinePlace → List TraceLine
 lines_told t AtOpening = []
 lines_told t (AtEntries n) = opening_lines t ++ Entries (length t.history + n) ∷ map Act t.history

@@ -6,12 +6,13 @@ use Rattle.trace_text.specs.LineOrder.{LinePlace, AtEntries, place_after}
 use Rattle.trace_text.specs.LinesRead.{tell}
 use Rattle.trace_text.specs.OpeningSeen.{place_seen, trace_seen}
 
--- How many entries may come, where entries may.
+-- How many entries are still to come, where entries may stand.
 abbrev pub entries_at : LinePlace → Option ℕ
 entries_at (AtEntries n) = Some n
 entries_at s = None
 
--- The line may come, and this much is told with it.
+-- The line is one that may come behind what was kept, and what is kept after it tells this line
+-- more.
 pub record TakesLine (line : List ℕ) (old new : OpeningSoFar) : Type 0 where
   pub told : TraceLine
   pub may : IsTraceLine told

@@ -44,7 +44,7 @@ trace_line_text (Act e) = entry_text e
 abbrev pub AreTwoNumbers : ℕ × ℕ → Type 0
 AreTwoNumbers x = IsNumber x.0 × IsNumber x.1
 
--- A line of a file may tell this.
+-- What the line of a file may tell: numbers below 2^32, and a file's name.
 pub record IsFileHead (x : FileHead) : Type 0 where
   pub file : IsNumber x.file
   pub name : IsTrue (is_file_name x.name)
@@ -52,14 +52,14 @@ pub record IsFileHead (x : FileHead) : Type 0 where
   pub len : IsNumber x.len
   pub extents : All AreTwoNumbers x.extents
 
--- 1 to 32 bytes, not all of them zeros.
+-- Bytes that a line of a file may tell: 1 to 32 of them, not all zeros.
 pub record IsPiece (bytes : List ℕ) : Type 0 where
   pub some : 1 ≤ length bytes
   pub few : length bytes ≤ 32
   pub told : list_all (λ b. b == 0) bytes ≡ false
   pub each : All IsByte bytes
 
--- A line may tell this.
+-- What a line of a trace may tell: numbers of their widths, a file's head, a piece or an entry.
 abbrev pub IsTraceLine : TraceLine → Type 0
 IsTraceLine (Slots n) = IsNumber n
 IsTraceLine (Disk d) = AreTwoNumbers d

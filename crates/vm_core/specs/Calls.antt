@@ -38,10 +38,11 @@ IsOnOwnSpace (Load a n) = Unit {0}
 IsOnOwnSpace (Store a n v) = Unit {0}
 IsOnOwnSpace call = ConcernsMappings call
 
--- The state with other memory, and these tails pending; and where these seats have the files' calls then.
+-- The state with other memory, and these tails pending.
 abbrev pub with_memory : KernelState → Memory → ℕ → KernelState
 with_memory s m pending = record s { memory = m; pending = pending }
 
+-- The state with other memory, these tails pending, and these seats in the calls of files.
 abbrev pub with_served : KernelState → Memory → ℕ → List (Option ℕ) → KernelState
 with_served s m pending calls = record (with_memory s m pending) { calls = calls }
 

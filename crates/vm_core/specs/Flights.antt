@@ -30,11 +30,12 @@ abbrev pub places_begun : World → Plan → List (Option Translation)
 places_begun w (plan.Read name) = w.hat.places
 places_begun w (plan.Push name) = places_pushed (next_frame w.store) (find w.store.names name) w.hat.places
 
--- The files and the slots once a transfer began.
+-- The files once a transfer began.
 abbrev pub files_begun : World → Plan → FilesSeen
 files_begun w (plan.Read name) = w.files
 files_begun w (plan.Push name) = files_pushed w.files name
 
+-- The slots once a transfer began.
 abbrev pub slots_begun : World → Plan → AnonSlotsSeen
 slots_begun w (plan.Read name) = w.anon
 slots_begun w (plan.Push name) = slots_pushed w.anon name

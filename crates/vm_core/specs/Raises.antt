@@ -22,9 +22,10 @@ pub record IsPageFrom (file from end : ℕ) (name : PageName) : Type 0 where
   pub low : from ≤ name.page
   pub high : name.page < end
 
--- A shared segment shows the page of a file at a place from one up to another; and a page of a process from one up to another does.
+-- A shared segment shows the page of a file at a place from one up to another.
 abbrev pub IsSharedAt : World → Segment → ℕ → ℕ → PageName → Type 0
 IsSharedAt w s from to name = (at : ℕ) × (from ≤ at) × (at < to) × SharesFilePage w (s, at) name
 
+-- A page of a process, from one up to another, shows the page of a file through a shared segment.
 abbrev pub IsSharedIn : Memory → ℕ → ℕ → ℕ → PageName → Type 0
 IsSharedIn m p first end name = (q : ℕ) × (x : Spot) × (first ≤ q) × (q < end) × (spot_at m.spaces p q ≡ Some x) × SharesFilePage m.world x name

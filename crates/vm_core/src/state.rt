@@ -1,8 +1,12 @@
 //! The state, and what it tells.
 ghost use Rattle.std.specs.Prelude.{◌≡◌, ◌↔◌, ◌+◌, ◌<◌, ◌≤◌, ℕ, length, option_map, IsSome, IsTrue, Some};
 ghost use Rattle.std.specs.FinMap as finite;
+ghost use Rattle.fault_entry.specs.flat_model.Flat.{Flat, cell_at};
 ghost use Rattle.fault_entry.specs.flat_model.Told.{entries_of};
-ghost use Rattle.fault_entry.specs.vm_world.State.{room_of, seat_of};
+ghost use Rattle.fault_entry.specs.page_store.Notes.{Notes};
+ghost use Rattle.fault_entry.specs.vm_world.FlatMemory.{flat_memory};
+ghost use Rattle.fault_entry.specs.vm_world.State.{Seats, room_of, seat_of};
+ghost use Rattle.fault_entry.specs.vm_world.StateFits.{StateFits};
 ghost use Rattle.fault_entry.specs.vm_types.declared.call.Call.TheVariants.{Sync};
 ghost use Rattle.fault_entry.specs.vm_world.SyncSteps.{start_of, with_call_begun};
 ghost use Rattle.fault_entry.specs.vm_types.Parts.{part_file};
@@ -17,6 +21,7 @@ use fault_entry::{Call, Disk, Reply, Spaces, World};
 use file_calls::FileLocks;
 use std::alloc::Global;
 use std::marker::Model;
+use vm_types::Object;
 use vm_world::SyncStart;
 
 /// The state of the system: the world below the segments, the spaces, and the history.
@@ -85,6 +90,22 @@ impl<D: Disk> VmState<D> {
             ≡ room_of self.now.entries process }
     {
         self.ledger.room(process)
+    }
+
+    /// The object of a process's cell at a page, and the page of it that the cell stands for; None
+    /// exactly where there is no cell. Time: the logarithm of the process's segments.
+    pub fn object(&self, process: u32, page: u32) -> Option<(Object, u32)>
+        requires fits { (F : Flat) × (seats : Seats) × StateFits F self.now seats }
+        ensures { (notes : Notes) → result ≡ option_map (λ c. (c.object, c.index))
+            (cell_at (flat_memory self.now.memory self.now.born notes) process page) }
+    {
+        let Some(space) = self.spaces.get(process) else {
+            return None;
+        };
+        let Some((first, _pages, segment)) = space.find(page) else {
+            return None;
+        };
+        Some(segment.object(page - first))
     }
 
     /// How many entries the history has. Constant time.

@@ -23,7 +23,7 @@ use Rattle.vm_core.specs.vm_world.State.{KernelState, Sent, seat_of}
 use Rattle.vm_kernel.specs.Callers.{SeatSeen, CallerSeen, IsIdle}
 use Rattle.vm_kernel.specs.Notes.{InHand, IsSentFor}
 use Rattle.vm_kernel.specs.Since.{seat_of_entry, history_of, IsSinceOpening}
-use Rattle.vm_kernel.specs.Steps.{IsNoteFor, IsForNone, tried_of}
+use Rattle.vm_kernel.specs.Steps.{EndsFlight, IsNoteFor, IsForNone, tried_of}
 use Rattle.vm_kernel.specs.Tells.{TellsTry, files_of, files_of_end, files_of_error}
 use Rattle.vm_kernel.specs.Turns.{CallerGoesOn, TriesOnce, IsOneTurn, MovesHands, IsQuick, IsTurn, IsFirstHalf, IsCallDone, LacksMemory, HasMet, HasCauseFor, ShowsError, IsForCall, caller_at, quick_of, turn_of_try, turn_of_end, why_of}
 use Rattle.vm_kernel.specs.Visits.{GoesOut, LeavesTelling, LeavesEnd, LeavesHand, Visit}
@@ -34,6 +34,7 @@ use Rattle.vm_kernel.specs.declared.turn.Why.{Why}
 use Rattle.vm_kernel.specs.declared.turn.Why.TheVariants.{LockHeld, PageBusy, DiskOut, FileBusy, Moved}
 use Rattle.vm_kernel.specs.declared.steps.Tried.{Tried}
 use Rattle.vm_kernel.specs.declared.steps.Tried.TheVariants as tried
+use Rattle.vm_kernel.proofs.Telling.{EndTells, HasGoneWell, TryTells, end-tells, hand-same, try-tells, well-then}
 
 -- all entries of one seat
 all-of : (k : ℕ) (es : List Entry) → All (λ (e : Entry). seat_of_entry e ≡ k) es → entries_by seat_of_entry k es ≡ es
@@ -191,8 +192,8 @@ module _ (opening : KernelState) (n : ℕ) (c b d : SeatSeen) (s : KernelState) 
   lacking-told takes is (inl one) = omega (arith, is, one)
   lacking-told takes is (inr none) = absurd (takes-no-access call takes none.0)
 
-  pub tried-comes : {E : Type 0} (result : Result Tried E) → TellsTry call result changes files → LeavesTelling changes files b s p call d note result → Comes c p call d note result
-  tried-comes (Ok (tried.Done r)) tells (t, out, ((cleared, longer), plain, none)) =
+  told-comes : {E : Type 0} (t : KernelState) (result : Result Tried E) → TellsTry call result changes files → GoesOut b s t note changes files d → TryTells s t p call note result → Comes c p call d note result
+  told-comes t (Ok (tried.Done r)) tells out ((cleared, longer), plain, none) =
       let e = done_entry p call r cleared in
       let visit = visited opening n c b d s t note (e ∷ []) changes files came in' out longer (All-cons (λ (x : Entry). seat_of_entry x ≡ c.number) e [] (ap seat_of named) (All-nil (λ (x : Entry). seat_of_entry x ≡ c.number))) in
       record {
@@ -212,10 +213,10 @@ module _ (opening : KernelState) (n : ℕ) (c b d : SeatSeen) (s : KernelState) 
           };
         };
       }
-  tried-comes (Ok tried.Out) tells (t, out, (same, for')) =
+  told-comes t (Ok tried.Out) tells out (same, for') =
       let visit = none-added t same out in
       record { state = t; added = []; changes = changes; files = files; visit = visit; home = home-then; half = (visit.own ∙ append-nil c.own, subst (IsNoteFor p call) (sym visit.noted) for') }
-  tried-comes (Ok (tried.Busy h)) tells (t, out, (same, holds, none)) =
+  told-comes t (Ok (tried.Busy h)) tells out (same, holds, none) =
       let visit = none-added t same out in
       record {
         state = t;
@@ -237,7 +238,7 @@ module _ (opening : KernelState) (n : ℕ) (c b d : SeatSeen) (s : KernelState) 
           }),
         );
       }
-  tried-comes (Err e) tells (t, out, (same, takes, none)) =
+  told-comes t (Err e) tells out (same, takes, none) =
       let visit = none-added t same out in
       record {
         state = t;
@@ -248,6 +249,9 @@ module _ (opening : KernelState) (n : ℕ) (c b d : SeatSeen) (s : KernelState) 
         home = home-then;
         half = record { takes = takes; none = visit.own ∙ append-nil c.own; free = visit.noted ∙ none; told = lacking-told takes visit.told tells.1 };
       }
+
+  pub tried-comes : {E : Type 0} (result : Result Tried E) → TellsTry call result changes files → LeavesTelling changes files b s p call d note result → Comes c p call d note result
+  tried-comes result tells (t, out, tries) = told-comes t result tells out (try-tells s t b.number p call note result tries)
 
 -- of a load or a store
 for-note : (p : ℕ) (call : Call) (o : Option Sent) → IsNoteFor p call o → IsForCall p call o
@@ -271,7 +275,7 @@ pub record Ends (c : SeatSeen) (p : ℕ) (call : Call) (d : SeatSeen) (result : 
 
 pub error-told : (b d : SeatSeen) (s : KernelState) (note : Sent) (result : Option Reply) → LeavesEnd b s note d result → IfSome result (λ (r : Reply). IsTrue (is_io r))
 error-told b d s note None left = tt
-error-told b d s note (Some r) (t, out, (of, is, adds, disk, before, after, io, error)) = subst (λ (x : Reply). IsTrue (is_io x)) (sym io) refl
+error-told b d s note (Some r) (t, out, ends) = let told = end-tells s t b.number note (Some r) ends in subst (λ (x : Reply). IsTrue (is_io x)) (sym told.6) refl
 
 some-emptied : (o : Option Sent) (note : Sent) (k : ℕ) → o ≡ Some note → k < (if empties o None then k + 1 else k)
 some-emptied None note k is = absurd (cc (is))
@@ -283,8 +287,9 @@ last-emptied (Some x) last note is = is
 
 module _ (opening : KernelState) (n : ℕ) (c b d : SeatSeen) (s : KernelState) (p : ℕ) (call : Call) (note : Sent) (came : IsEntered seat_of_entry history_of IsSinceOpening opening n (part_of c) s)
     (in' : HasTried (after_enter c s) b) (named : p ≡ suc c.number) (noted : c.note ≡ Some note) (for' : note.of ≡ Some (p, call)) where
-  pub ended-comes : (result : Option Reply) → LeavesEnd b s note d result → Ends c p call d result
-  ended-comes None (t, out, same) =
+  told-ends : (t : KernelState) (result : Option Reply) → GoesOut b s t None 1 (files_of_end note.of result) d → EndTells s t note result → (result ≡ None → HasGoneWell t note) → Ends c p call d result
+  told-ends t None out same gone =
+      let well = gone refl in
       let visit = visited opening n c b d s t None [] 1 0 came in' out (same ∙ sym (append-nil s.history)) (All-nil (λ (e : Entry). seat_of_entry e ≡ c.number)) in
       record {
         state = t;
@@ -299,11 +304,17 @@ module _ (opening : KernelState) (n : ℕ) (c b d : SeatSeen) (s : KernelState) 
             note = note;
             last = visit.last ∙ last-emptied c.note c.last_emptied note noted;
             of = for';
+            back = well.back;
+            performed = well.performed;
+            well = well.well;
+            state = t;
+            left = visit.state;
+            home = well.home;
             free = visit.noted;
           },
         );
       }
-  ended-comes (Some r) (t, out, (of, is, (cleared, longer), disk, before, after, io, error)) =
+  told-ends t (Some r) out (of, is, (cleared, longer), disk, before, after, io, error) gone =
       let mine : of ≡ (p, call) = cc (is, for') in
       let longer' : t.history ≡ s.history ++ done_entry p call r cleared ∷ [] = longer ∙ ap (λ (o : ℕ × Call). s.history ++ done_entry o.0 o.1 r cleared ∷ []) mine in
       let e = done_entry p call r cleared in
@@ -338,6 +349,10 @@ module _ (opening : KernelState) (n : ℕ) (c b d : SeatSeen) (s : KernelState) 
         };
       }
 
+  pub ended-comes : (result : Option Reply) → LeavesEnd b s note d result → Ends c p call d result
+  ended-comes result (t, out, ends) =
+      told-ends t result out (end-tells s t b.number note result ends) (λ none. well-then s t b.number note (p, call) for' (subst (EndsFlight s t b.number note) none ends))
+
 -- A TURN THAT BEGAN EARLIER
 module _ (v m d : SeatSeen) (p : ℕ) (call : Call) (goes : CallerGoesOn (caller_at v p) (caller_at m p)) where
   told-up : v.told ≤ m.told
@@ -358,7 +373,7 @@ module _ (v m d : SeatSeen) (p : ℕ) (call : Call) (goes : CallerGoesOn (caller
   cause-later (PageBusy t) has = met-later (hold.Page t) has
   cause-later (DiskOut t) has = met-later (hold.Disk t) has
   cause-later (FileBusy t) has = met-later (hold.File t) has
-  cause-later Moved has = record { emptied = let a = has.emptied in let b = goes.emptied in omega (arith, a, b); note = has.note; last = has.last; of = has.of; free = has.free }
+  cause-later Moved has = record { emptied = let a = has.emptied in let b = goes.emptied in omega (arith, a, b); note = has.note; last = has.last; of = has.of; back = has.back; performed = has.performed; well = has.well; state = has.state; left = has.left; home = has.home; free = has.free }
 
   error-later : (r : Reply) → ShowsError (caller_at m p) call (caller_at d p) r → ShowsError (caller_at v p) call (caller_at d p) r
   error-later reply.Done has = tt
@@ -448,17 +463,20 @@ pub record ComesHand (c : SeatSeen) (d : SeatSeen) (note : Option Sent) (changes
 
 module _ (opening : KernelState) (n : ℕ) (c b d : SeatSeen) (s : KernelState) (came : IsEntered seat_of_entry history_of IsSinceOpening opening n (part_of c) s) (in' : HasTried (after_enter c s) b) where
   pub hand-comes : (note : Option Sent) → LeavesHand b s d note → ComesHand c d note 0
-  hand-comes note (t, out, same, moved) = record {
+  hand-comes note (t, out, moved) = let same = hand-same s t b.number note moved in record {
     state = t;
     visit = visited opening n c b d s t note [] 0 0 came in' out (same ∙ sym (append-nil s.history)) (All-nil (λ (e : Entry). seat_of_entry e ≡ c.number));
   }
 
-  pub landed-comes : (note : Sent) (result : Option Reply) → note.of ≡ None → LeavesEnd b s note d result → ComesHand c d None 1
-  landed-comes note None of (t, out, same) = record {
+  told-lands : (t : KernelState) (note : Sent) (result : Option Reply) → note.of ≡ None → GoesOut b s t None 1 (files_of_end note.of result) d → EndTells s t note result → ComesHand c d None 1
+  told-lands t note None of out same = record {
     state = t;
     visit = visited opening n c b d s t None [] 1 0 came in' out (same ∙ sym (append-nil s.history)) (All-nil (λ (e : Entry). seat_of_entry e ≡ c.number));
   }
-  landed-comes note (Some r) of (t, out, ends) = absurd (let z : ◌≡◌ {A = Option (ℕ × Call)} None (Some ends.0) = sym of ∙ ends.1 in cc (z))
+  told-lands t note (Some r) of out ends = absurd (let z : ◌≡◌ {A = Option (ℕ × Call)} None (Some ends.0) = sym of ∙ ends.1 in cc (z))
+
+  pub landed-comes : (note : Sent) (result : Option Reply) → note.of ≡ None → LeavesEnd b s note d result → ComesHand c d None 1
+  landed-comes note result of (t, out, ends) = told-lands t note result of out (end-tells s t b.number note result ends)
 
 -- a note that wasn't there isn't emptied
 pub none-emptied : (n m : Option Sent) (k : ℕ) → n ≡ None → (if empties n m then k + 1 else k) ≡ k

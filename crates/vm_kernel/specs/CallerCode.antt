@@ -9,6 +9,7 @@ use Rattle.vm_kernel.specs.contracts.sent.SeatNote as note
 use Rattle.vm_core.specs.vm_world.State.{KernelState, Sent}
 use Rattle.vm_kernel.specs.Callers.{KernelSeen, SeatSeen, CallerSeen}
 
+-- A kernel's lock as data: its table, how many seats it has, and its opening.
 abbrev pub kernel_code : Coded KernelSeen
 kernel_code =
     code_by (TableId × (ℕ × KernelState)) (coded× table_id_coded (coded× coded_ℕ state_code))
@@ -18,6 +19,7 @@ kernel_code =
 abbrev pub SeatPlace : Type 0
 SeatPlace = TableId × (Option KernelState × (ℕ × (ℕ × (Bool × Option KernelState))))
 
+-- Where a seat is, as data.
 abbrev pub seat_place_code : Coded SeatPlace
 seat_place_code = coded× table_id_coded (coded× (coded_option state_code) (coded× coded_ℕ (coded× coded_ℕ (coded× coded_bool (coded_option state_code)))))
 
@@ -25,10 +27,12 @@ seat_place_code = coded× table_id_coded (coded× (coded_option state_code) (cod
 abbrev pub SeatKnown : Type 0
 SeatKnown = Option Sent × (List Entry × (List Entry × (ℕ × (Option ℕ × (ℕ × (ℕ × (ℕ × (ℕ × Option Sent))))))))
 
+-- What a seat has and saw, and its counts, as data.
 abbrev pub seat_known_code : Coded SeatKnown
 seat_known_code =
     coded× (coded_option note.the_row.coded) (coded× (coded_list entry.the_row.coded) (coded× (coded_list entry.the_row.coded) (coded× coded_ℕ (coded× (coded_option coded_ℕ) (coded× coded_ℕ (coded× coded_ℕ (coded× coded_ℕ (coded× coded_ℕ (coded_option note.the_row.coded)))))))))
 
+-- A seat as data.
 abbrev pub seat_code : Coded SeatSeen
 seat_code =
     code_by (SeatPlace × SeatKnown) (coded× seat_place_code seat_known_code)
@@ -52,5 +56,6 @@ seat_code =
       last_emptied = p.1.1.1.1.1.1.1.1.1.1;
     }) (λ _. refl)
 
+-- A caller as data: its seat and its process.
 abbrev pub caller_code : Coded CallerSeen
 caller_code = code_by (SeatSeen × ℕ) (coded× seat_code coded_ℕ) (λ c. (c.seat, c.process)) (λ p. record { seat = p.0; process = p.1 }) (λ _. refl)

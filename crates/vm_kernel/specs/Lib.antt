@@ -9,3 +9,4 @@ pub mod Tells
 pub mod Tries
 pub mod Turns
 pub mod Visits
+pub mod Objects

@@ -34,6 +34,7 @@ no_sent = record {
 abbrev pub IsUnperformed : {D : Type 0} → SentFlight D → Type 0
 IsUnperformed x = x.flight.outcome ≡ fresh
 
+-- The flight that is held, if one is, waits for its transfer.
 abbrev pub AreUnperformed : {D : Type 0} → Option (SentFlight D) → Type 0
 AreUnperformed None = Unit {0}
 AreUnperformed (Some x) = IsUnperformed x

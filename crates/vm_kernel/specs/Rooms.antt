@@ -9,6 +9,7 @@ use Rattle.vm_kernel.specs.declared.starting.Room.{Room}
 abbrev pub IsRoomAt : List ℕ → ℕ → Room → Type 0
 IsRoomAt entries k room = ((room.process ≡ suc k) × (slice_get entries k ≡ Some room.entries)) ⊎ ((room.process ≡ 0) × (room.entries ≡ 0) × (k ≡ length entries))
 
+-- Each room is that of its place: processes from 1 on with their entries, and one for none behind.
 abbrev pub AreRooms : List ℕ → List Room → Type 0
 AreRooms entries rooms = (k : ℕ) (d : Room) → k < length rooms → IsRoomAt entries k (slice_index_or rooms k d)
 

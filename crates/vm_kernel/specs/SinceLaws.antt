@@ -42,11 +42,13 @@ since-then opening s t seats seat before after was at event = record {
       (early.0, late.1 (moment_of opening (notes_of no_seats)) early.1);
 }
 
+-- A move of one seat keeps what the lock keeps.
 pub state_keeps : (opening s t : KernelState) (notes : List (Option Sent)) (k : ℕ) (n m : Option Sent) → IsSinceOpening opening s notes → get_elem? notes k ≡ some n → Moves k s n t m → IsSinceOpening opening t (slice_set notes k m)
 state_keeps opening s t notes k n m fits at moved =
     let here = at_default notes k n None at in
     subst (IsSince opening t) (one-changed notes k m here.0) (since-then opening s t (seats_of notes) k n m fits here.1 moved)
 
+-- A move of one seat adds entries of that seat alone.
 pub state_grows : (opening s t : KernelState) (notes : List (Option Sent)) (k : ℕ) (n m : Option Sent) → IsSinceOpening opening s notes → get_elem? notes k ≡ some n → Moves k s n t m
     → (added : List Entry) × (history_of t ≡ history_of s ++ added) × All (λ (e : Entry). seat_of_entry e ≡ k) added
 state_grows opening s t notes k n m fits at moved = moved.grown

@@ -19,6 +19,7 @@ tells_of_try (Err e) = 1
 abbrev pub files_of : Call → Reply → ℕ
 files_of call reply = if is_some (file_of_call call) && ends_call call reply then 1 else 0
 
+-- How often a try tells that a file is free: once where it answered the end of a file's call.
 abbrev pub files_of_try : {E : Type 0} → Call → Result Tried E → ℕ
 files_of_try call (Ok (Done reply)) = files_of call reply
 files_of_try call (Ok Out) = 0
@@ -30,6 +31,7 @@ abbrev pub files_of_error : Reply → Option Caller → ℕ
 files_of_error reply None = 0
 files_of_error reply (Some of) = files_of of.1 reply
 
+-- How often the end of a transfer tells that a file is free: once where it ended a file's call.
 abbrev pub files_of_end : Option Caller → Option Reply → ℕ
 files_of_end of None = 0
 files_of_end of (Some reply) = files_of_error reply of

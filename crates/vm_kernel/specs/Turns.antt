@@ -5,6 +5,7 @@ use mathlib.Core.List.{IsPrefix}
 use Rattle.vm_core.specs.block_device.Counts.{HasRisen}
 use Rattle.vm_core.specs.block_device.DiskSeen.{DiskSeen}
 use Rattle.vm_core.specs.page_store.Bays.{bay_at, home}
+use Rattle.vm_core.specs.page_store.Flight.{FlightSeen, IsPerformed, done}
 use Rattle.vm_core.specs.page_store.declared.plan.Hold.{Hold}
 use Rattle.vm_core.specs.page_store.declared.plan.Hold.TheVariants as hold
 use Rattle.vm_core.specs.vm_types.WellFormed.{IsWellFormed}
@@ -64,6 +65,7 @@ pub record CallerGoesOn (c d : CallerSeen) : Type 0 where
 abbrev pub lock_tries : CallerSeen → ℕ
 lock_tries c = c.seat.leaves + c.seat.refused
 
+-- It tried the lock once.
 abbrev pub TriesOnce : CallerSeen → CallerSeen → Type 0
 TriesOnce c d = lock_tries d ≡ lock_tries c + 1
 
@@ -137,12 +139,18 @@ pub record HasMet (c : CallerSeen) (call : Call) (d : CallerSeen) (h : Hold) : T
   pub other : seat_in h ≢ c.seat.number
   pub free : d.seat.note ≡ None
 
--- A transfer of the caller for this call ended in this turn.
+-- A transfer of the caller for this call ended in this turn, and went well: the state that the caller left last has its disk home as it came back.
 pub record HasMoved (c : CallerSeen) (call : Call) (d : CallerSeen) : Type 0 where
   pub emptied : c.seat.emptied < d.seat.emptied
   pub note : Sent
   pub last : d.seat.last_emptied ≡ Some note
   pub of : note.of ≡ Some (c.process, call)
+  pub back : FlightSeen
+  pub performed : IsPerformed note.note back
+  pub well : back.outcome ≡ done
+  pub state : KernelState
+  pub left : d.seat.state ≡ Some state
+  pub home : bay_at state.memory.world.store.bays back.number ≡ home back.disk
   pub free : d.seat.note ≡ None
 
 -- WHY THERE IS NO REPLY.
@@ -190,16 +198,19 @@ why_of (hold.Page t) = PageBusy t
 why_of (hold.Disk t) = DiskOut t
 why_of (hold.File t) = FileBusy t
 
+-- What a turn answers by what a try came to; none where the transfer is out now.
 abbrev pub turn_of_try : {E : Type 0} → Result Tried E → Result (Option Turn) E
 turn_of_try (Ok (tried.Done r)) = Ok (Some (Done r))
 turn_of_try (Ok tried.Out) = Ok None
 turn_of_try (Ok (tried.Busy h)) = Ok (Some (Again (why_of h)))
 turn_of_try (Err e) = Err e
 
+-- What a turn answers by the end of a transfer: its device error, or that it moved.
 abbrev pub turn_of_end : Option Reply → Turn
 turn_of_end (Some r) = Done r
 turn_of_end None = Again Moved
 
+-- What a turn answers by how the end of its transfer went.
 abbrev pub turn_of_ended : Ended → Turn
 turn_of_ended (ended.Failed disk before after) = Done (reply.Io disk before after)
 turn_of_ended ended.Moved = Again Moved
@@ -225,6 +236,7 @@ quick_of (answer.Signal signal) = quick.Signal signal
 quick_of (answer.Need plan) = quick.Later
 quick_of (answer.Busy hold) = quick.Later
 
+-- What a quick try leaves: its entry with this reply, or, where it is for later, what Later says.
 abbrev pub IsQuick : CallerSeen → Call → CallerSeen → Quick → Type 0
 IsQuick c call d (quick.Word word) = IsCallDone c call d (reply.Word word)
 IsQuick c call d quick.Stored = IsCallDone c call d reply.Done

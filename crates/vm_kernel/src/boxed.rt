@@ -3,7 +3,12 @@ ghost use Rattle.std.specs.Prelude.{◌≡◌, ◌<◌, ℕ, Some, None, IfSome,
 ghost use Rattle.vm_core.specs.Fits.{FitsAt};
 ghost use Rattle.vm_core.specs.vm_types.WellFormed.{IsWellFormed};
 ghost use Rattle.vm_core.specs.vm_world.Events.{IsEvent, CanTry};
-ghost use Rattle.vm_core.specs.vm_world.State.{Sent};
+ghost use Rattle.vm_core.specs.flat_model.Flat.{Flat, cell_at};
+ghost use Rattle.vm_core.specs.page_store.Notes.{Notes};
+ghost use Rattle.vm_core.specs.vm_world.FlatMemory.{flat_memory};
+ghost use Rattle.vm_core.specs.vm_world.State.{Seats, Sent};
+ghost use Rattle.vm_core.specs.vm_world.StateFits.{StateFits};
+ghost use Rattle.vm_kernel.specs.Objects.{object_told};
 ghost use Rattle.vm_kernel.specs.Notes.{note_of_held, AreUnperformed, InHand, IsSentFor};
 ghost use Rattle.vm_core.specs.fault_entry.Accesses.{IsAccess};
 ghost use Rattle.vm_kernel.specs.Steps.{TriesAccess, TriesCall, EndsFlight, MovesHand, IsForNone};
@@ -14,6 +19,7 @@ use kernel_lock::guarded::Guarded;
 use std::alloc::AllocError;
 use std::marker::Model;
 use vm_core::{Answer, Call, Disk, Entry, Reply, VmState};
+use vm_types::Object;
 
 /// The state in a box. Contracts see it as the state.
 #[derive(Drop)]
@@ -77,8 +83,8 @@ impl<D: Disk> BoxedState<D> {
         requires none { sent.old ≡ None }
         // One event: what the try leaves, and the flight that is out then, which waits for its transfer.
         ensures event { IsEvent seat self.old None self.new (note_of_held sent.new) }
-        ensures tries { TriesCall self.old self.new process call.now (note_of_held sent.new)
-            result }
+        ensures tries { TriesCall self.old self.new seat process call.now
+            (note_of_held sent.new) result }
         ensures ready { AreUnperformed sent.new }
     {
         steps::try_and_begin(&mut self.state, seat, process, call, sent)
@@ -92,7 +98,7 @@ impl<D: Disk> BoxedState<D> {
         requires may { CanTry self.old seat process call.now }
         // One event, as of any call that is tried.
         ensures event { IfSome result (λ _answer. IsEvent seat self.old None self.new None) }
-        ensures tries { IfSome result (TriesAccess self.old self.new process call.now None) }
+        ensures tries { IfSome result (TriesAccess self.old self.new seat process call.now None) }
         // No hit.
         ensures none { IfNone result (self.new ≡ self.old) }
     {
@@ -114,8 +120,8 @@ impl<D: Disk> BoxedState<D> {
         requires none { sent.old ≡ None }
         // One event, as of any call that is tried.
         ensures event { IsEvent seat self.old None self.new (note_of_held sent.new) }
-        ensures tries { TriesAccess self.old self.new process call.now (note_of_held sent.new)
-            result }
+        ensures tries { TriesAccess self.old self.new seat process call.now
+            (note_of_held sent.new) result }
         ensures ready { AreUnperformed sent.new }
     {
         steps::access_and_begin(&mut self.state, seat, process, call, sent)
@@ -134,7 +140,7 @@ impl<D: Disk> BoxedState<D> {
         requires of { IsSentFor sent (option_map (λ (c : ℕ × _). (c.0, c.1.now)) call) }
         ensures ends { (note : Sent) → InHand (Some sent) (Some note)
             → IsEvent seat self.old (Some note) self.new None
-            × EndsFlight self.old self.new note result }
+            × EndsFlight self.old self.new seat note result }
     {
         steps::end_flight(&mut self.state, seat, sent, call)
     }
@@ -144,14 +150,24 @@ impl<D: Disk> BoxedState<D> {
         requires fits { FitsAt self.old seat None }
         requires seat { seat < length self.old.syncs }
         requires none { sent.old ≡ None }
-        // One event, which makes no entry; a push that is out then is for no call.
+        // One event, and nothing but the move and its push; a push that is out then is for no call.
         ensures event { IsEvent seat self.old None self.new (note_of_held sent.new) }
         ensures ready { AreUnperformed sent.new }
         ensures of { IsForNone (note_of_held sent.new) }
-        ensures hand { MovesHand self.old self.new (note_of_held sent.new) }
-        ensures same { self.new.history ≡ self.old.history }
+        ensures hand { MovesHand self.old self.new seat (note_of_held sent.new) }
     {
         steps::move_hand(&mut self.state, seat, sent);
+    }
+
+    /// The object of a process's cell at a page, and the page of it that the cell stands for; None
+    /// exactly where there is no cell.
+    pub(crate) fn object(&self, process: u32, page: u32) -> Option<(Object, u32)>
+        requires fits { (F : Flat) × (seats : Seats) × StateFits F self.now seats }
+        ensures told { (notes : Notes) → result
+            ≡ object_told (cell_at (flat_memory self.now.memory self.now.born notes)
+            process page) }
+    {
+        self.state.object(process, page)
     }
 
     /// The state.

@@ -380,6 +380,17 @@ impl<D: Disk> VmKernel<D> {
         unreachable!()
     }
 
+    /// The one caller has seen what the other has seen. It takes no memory and waits for nobody.
+    pub fn meet(&self, from: &mut Caller<D>, to: &mut Caller<D>)
+        requires callers { IsCallerOf self.now from.old × IsCallerOf self.now to.old }
+        ensures callers { IsCallerOf self.now from.new × IsCallerOf self.now to.new }
+        ensures from { from.new ≡ from.old }
+        ensures to { HasSeenMore to.old to.new }
+        ensures seen { IsPrefix from.old.seat.seen to.new.seat.seen }
+    {
+        self.lock.meet(&mut from.seat, &mut to.seat);
+    }
+
     /// The parent has seen what the child has seen. It takes no memory and waits for nobody.
     pub fn wait_for(&self, child: &mut Caller<D>, parent: &mut Caller<D>)
         requires callers { IsCallerOf self.now child.old × IsCallerOf self.now parent.old }
@@ -388,7 +399,7 @@ impl<D: Disk> VmKernel<D> {
         ensures parent { HasSeenMore parent.old parent.new }
         ensures seen { IsPrefix child.old.seat.seen parent.new.seat.seen }
     {
-        self.lock.meet(&mut child.seat, &mut parent.seat);
+        self.meet(child, parent);
     }
 
     // One move of a hand, with its transfer.

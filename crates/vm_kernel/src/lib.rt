@@ -8,6 +8,7 @@ mod closing;
 mod halves;
 mod hits;
 pub mod kernel;
+mod looks;
 mod sent;
 pub mod starting;
 mod steps;

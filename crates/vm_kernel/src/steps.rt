@@ -1,13 +1,13 @@
 //! What a seat does while it has the state: it tries a call and begins the transfer that the call needs, ends a transfer, or moves a
 //! hand of the clock. No lock is named here.
-ghost use Rattle.std.specs.Prelude.{◌≡◌, ◌<◌, ℕ, Some, None, IsSome, length, option_map};
+ghost use Rattle.std.specs.Prelude.{◌≡◌, ◌<◌, ℕ, Some, None, length, option_map};
 ghost use Rattle.vm_core.specs.Fits.{FitsAt};
 ghost use Rattle.vm_core.specs.vm_types.WellFormed.{IsWellFormed};
 ghost use Rattle.vm_core.specs.vm_world.Events.{IsEvent, CanTry};
 ghost use Rattle.vm_core.specs.vm_world.State.{Sent};
 ghost use Rattle.vm_kernel.specs.Notes.{note_of_held, AreUnperformed, InHand, IsSentFor};
 ghost use Rattle.vm_core.specs.fault_entry.Accesses.{IsAccess};
-ghost use Rattle.vm_kernel.specs.Steps.{TriesAccess, TriesCall, EndsFlight, MovesHand, IsForNone, IsNoteFor, IsOutFor};
+ghost use Rattle.vm_kernel.specs.Steps.{TriesAccess, TriesCall, EndsFlight, MovesHand, SendsOut, IsForNone};
 
 use crate::sent::SentFlight;
 use std::alloc::AllocError;
@@ -34,11 +34,10 @@ fn send<D: Disk>(
     requires fits { FitsAt state.old seat None }
     requires kept { state.old.plan ≡ Some (record { seat = seat; plan = plan; of = of.now }) }
     requires none { sent.old ≡ None }
-    // One event, which makes no entry: the flight of the plan is out, and waits for its transfer.
+    // One event: the flight of the plan is out, and waits for its transfer, and nothing else happened.
     ensures event { IsEvent seat state.old None state.new (note_of_held sent.new) }
     ensures ready { AreUnperformed sent.new }
-    ensures of { IsOutFor of.now (note_of_held sent.new) }
-    ensures same { state.new.history ≡ state.old.history }
+    ensures sends { SendsOut state.old state.new seat plan of.now (note_of_held sent.new) }
 {
     *sent = Some(SentFlight {
         flight: state.begin(seat, plan),
@@ -60,7 +59,8 @@ pub(crate) fn try_and_begin<D: Disk>(
     requires none { sent.old ≡ None }
     // One event: what the try leaves, and the flight that is out then, which waits for its transfer.
     ensures event { IsEvent seat state.old None state.new (note_of_held sent.new) }
-    ensures tries { TriesCall state.old state.new process call.now (note_of_held sent.new) result }
+    ensures tries { TriesCall state.old state.new seat process call.now (note_of_held sent.new)
+        result }
     ensures ready { AreUnperformed sent.new }
 {
     match state.try_call(seat, process, call)? {
@@ -90,11 +90,11 @@ fn send_for<D: Disk>(
       of = Some (process, call.now);
     }) }
     requires none { sent.old ≡ None }
-    // One event, which makes no entry.
+    // One event: the flight of the plan is out.
     ensures event { IsEvent seat state.old None state.new (note_of_held sent.new) }
     ensures ready { AreUnperformed sent.new }
-    ensures for_call { IsNoteFor process call.now (note_of_held sent.new) }
-    ensures same { state.new.history ≡ state.old.history }
+    ensures sends { SendsOut state.old state.new seat plan (Some (process, call.now))
+        (note_of_held sent.new) }
 {
     send(state, seat, plan, &Some((process, *call)), sent);
 }
@@ -114,8 +114,8 @@ pub(crate) fn access_and_begin<D: Disk>(
     requires none { sent.old ≡ None }
     // One event, as of any call that is tried.
     ensures event { IsEvent seat state.old None state.new (note_of_held sent.new) }
-    ensures tries { TriesAccess state.old state.new process call.now (note_of_held sent.new)
-        result }
+    ensures tries { TriesAccess state.old state.new seat process call.now
+        (note_of_held sent.new) result }
     ensures ready { AreUnperformed sent.new }
 {
     let answer = state.try_access(seat, process, call);
@@ -139,7 +139,7 @@ pub(crate) fn end_flight<D: Disk>(
     requires of { IsSentFor sent (option_map (λ (c : ℕ × _). (c.0, c.1.now)) call) }
     ensures ends { (note : Sent) → InHand (Some sent) (Some note)
         → IsEvent seat state.old (Some note) state.new None
-        × EndsFlight state.old state.new note result }
+        × EndsFlight state.old state.new seat note result }
 {
     let SentFlight { flight, of: _ } = sent;
     state.end(seat, flight, call)
@@ -156,12 +156,10 @@ fn push_out<D: Disk>(
     requires fits { FitsAt state.old seat None }
     requires kept { state.old.plan ≡ Some (record { seat = seat; plan = plan; of = None }) }
     requires none { sent.old ≡ None }
-    // One event, which makes no entry, and the flight is for no call.
+    // One event: the flight of the plan is out, and is for no call.
     ensures event { IsEvent seat state.old None state.new (note_of_held sent.new) }
     ensures ready { AreUnperformed sent.new }
-    ensures of { IsForNone (note_of_held sent.new) }
-    ensures out { IsSome (note_of_held sent.new) }
-    ensures same { state.new.history ≡ state.old.history }
+    ensures sends { SendsOut state.old state.new seat plan None (note_of_held sent.new) }
 {
     send(state, seat, plan, &None, sent);
 }
@@ -175,12 +173,11 @@ pub(crate) fn move_hand<D: Disk>(
     requires fits { FitsAt state.old seat None }
     requires seat { seat < length state.old.syncs }
     requires none { sent.old ≡ None }
-    // One event, which makes no entry; a push that is out then is for no call.
+    // One event, and nothing but the move and its push; a push that is out then is for no call.
     ensures event { IsEvent seat state.old None state.new (note_of_held sent.new) }
     ensures ready { AreUnperformed sent.new }
     ensures of { IsForNone (note_of_held sent.new) }
-    ensures hand { MovesHand state.old state.new (note_of_held sent.new) }
-    ensures same { state.new.history ≡ state.old.history }
+    ensures hand { MovesHand state.old state.new seat (note_of_held sent.new) }
 {
     match state.clock(seat) {
         Some(plan) => push_out(state, seat, plan, sent),

@@ -5,6 +5,7 @@ use Rattle.vm_script.specs.declared.fault.ScriptKind.TheVariants as kind
 use Rattle.vm_script.specs.declared.fault.ScriptFault.{ScriptFault}
 use Rattle.vm_report.specs.Texts.{counts_text}
 
+-- The word of a fault of a script's line.
 abbrev pub kind_word : ScriptKind → List ℕ
 kind_word kind.Long = codes "long"
 kind_word kind.Byte = codes "byte"

@@ -11,6 +11,7 @@ use Rattle.vm_script.specs.Told.{parent_of}
 abbrev pub with_member : {A : Type 0} → List (List A) → ℕ → A → List (List A)
 with_member groups p x = slice_set groups p (slice_index_or groups p [] ++ x ∷ [])
 
+-- With the flag of the process that this call made, by its reply.
 abbrev pub birth_flag : List Bool → Call → Reply → List Bool
 birth_flag births (call.Fork child) reply.Done = slice_set births child true
 birth_flag births c r = births
@@ -19,6 +20,7 @@ birth_flag births c r = births
 abbrev pub with_birth : List Bool → Entry → List Bool
 with_birth births e = birth_flag births e.call e.reply
 
+-- A process with this parent is born where it is a top process, or where the flag says that it was forked.
 abbrev pub is_born_option : Option ℕ → Bool → Bool
 is_born_option None forked = false
 is_born_option (Some zero) forked = true

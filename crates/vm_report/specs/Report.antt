@@ -30,6 +30,7 @@ act_word act.Wait = codes "wait"
 abbrev pub line_text : PlanLine → List Entry → List ℕ
 line_text l es = decimal l.line ++ 32 ∷ act_word l.act ++ 32 ∷ line_result es ++ 10 ∷ []
 
+-- The line waits.
 abbrev pub is_wait : PlanAct → Bool
 is_wait act.Wait = true
 is_wait a = false
@@ -57,6 +58,7 @@ abbrev pub section_text : ℕ → Bool → List PlanLine → List Entry → List
 section_text p born lines es =
     codes "process " ++ decimal p ++ (if born then 10 ∷ lines_text lines es else codes " not born" ++ 10 ∷ [])
 
+-- The section of process p.
 abbrev pub process_section : PlanSeen → ℕ → List Entry → List ℕ
 process_section plan p H = section_text p (is_born plan H p) (own_lines plan p) (entries_of H p)
 

@@ -46,11 +46,13 @@ result_text c (reply.Signal s) = signal_text s
 result_text c (reply.Refused e) = refusal_text e
 result_text c (reply.Io disk before after) = io_word c ++ counts_text disk before after
 
+-- A refusal or a device error.
 abbrev pub is_failure : Reply → Bool
 is_failure (reply.Refused e) = true
 is_failure (reply.Io disk before after) = true
 is_failure r = false
 
+-- Where the entry was refused or met a device error: a space and that result.
 abbrev pub failure_of : Entry → List ℕ
 failure_of e = if is_failure e.reply then 32 ∷ result_text e.call e.reply else []
 
@@ -60,6 +62,7 @@ failure_text [] = []
 failure_text (e ∷ []) = failure_of e
 failure_text (e ∷ next ∷ es) = failure_text (next ∷ es)
 
+-- The bytes that a part of a read got.
 abbrev pub reply_bytes : Reply → List ℕ
 reply_bytes (reply.Bytes bytes) = bytes
 reply_bytes r = []
@@ -68,6 +71,7 @@ reply_bytes r = []
 abbrev pub bytes_read : List Entry → List ℕ
 bytes_read es = flat_map (λ e. reply_bytes e.reply) es
 
+-- How many bytes a part of a write wrote.
 abbrev pub bytes_done : Call → Reply → ℕ
 bytes_done (call.Write file offset line rest) reply.Done = length line
 bytes_done c r = 0
@@ -76,19 +80,22 @@ bytes_done c r = 0
 abbrev pub bytes_written : List Entry → ℕ
 bytes_written es = sum_by (λ e. bytes_done e.call e.reply) es
 
+-- The result of a read, by the entries of its parts: the bytes, and its failure.
 abbrev pub read_result : List Entry → List ℕ
 read_result es = bytes_text (bytes_read es) ++ failure_text es
 
+-- The result of a write, by the entries of its parts: the number of bytes, and its failure.
 abbrev pub write_result : List Entry → List ℕ
 write_result es = decimal (bytes_written es) ++ failure_text es
 
--- The result of a line, by the entries that it made: those of a read or a write are its parts, and every other line
--- made one.
+-- The result of a line that began with this call and reply, by the entries that it made: those of a read or a write
+-- are its parts, and every other line made one.
 abbrev pub call_result : Call → Reply → List Entry → List ℕ
 call_result (call.Read file offset len) r es = read_result es
 call_result (call.Write file offset line rest) r es = write_result es
 call_result c r es = result_text c r
 
+-- The result of a line, by the entries that it made; nothing where it made none.
 abbrev pub line_result : List Entry → List ℕ
 line_result [] = []
 line_result (e ∷ es) = call_result e.call e.reply (e ∷ es)

@@ -4,10 +4,11 @@ use Rattle.vm_script.specs.vm_types.declared.call.Entry.{Entry}
 use Rattle.vm_report.specs.declared.cursors.Cursor.{Cursor}
 use Rattle.vm_report.specs.declared.runs.Run.{Run}
 
--- The entries of a run, and of several.
+-- The entries of a run.
 abbrev pub run_seen : List Entry → Run → List Entry
 run_seen H r = take r.count (drop r.first H)
 
+-- The entries of several runs, one behind the other.
 abbrev pub runs_seen : List Entry → List Run → List Entry
 runs_seen H [] = []
 runs_seen H (r ∷ rs) = run_seen H r ++ runs_seen H rs

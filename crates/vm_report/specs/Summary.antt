@@ -10,10 +10,12 @@ is_signal (reply.Signal s) = true
 is_signal (reply.Io disk before after) = true
 is_signal r = false
 
+-- A refusal.
 abbrev pub is_refusal : Reply → Bool
 is_refusal (reply.Refused e) = true
 is_refusal r = false
 
+-- The word that was loaded, or 0.
 abbrev pub word_of : Reply → ℕ
 word_of (reply.Word v) = v
 word_of r = 0

@@ -15,10 +15,12 @@ use Rattle.vm_script.specs.Texts.{hex_text, prot_text, kind_text}
 use Rattle.vm_report.specs.Texts.{word_text, call_word}
 use Rattle.vm_report.specs.Results.{result_text, bytes_text}
 
+-- A place as a trace prints it: an address, or `any`.
 abbrev pub place_word : Place → List ℕ
 place_word (At a) = word_text 4 a
 place_word Any = codes "any"
 
+-- An object as a trace prints it.
 abbrev pub object_words : Object → List ℕ
 object_words (object.File file) = codes "file " ++ decimal file
 object_words object.NewZero = codes "newzero"
@@ -85,6 +87,7 @@ opening_text slots disks parents = codes "trace swap " ++ decimal slots ++ 10 �
 abbrev pub extent_text : ℕ × ℕ → List ℕ
 extent_text x = decimal x.0 ++ 43 ∷ decimal x.1
 
+-- A comma where something stands in front of it.
 abbrev pub comma_before : List (ℕ × ℕ) → List ℕ
 comma_before [] = []
 comma_before (x ∷ more) = 44 ∷ []
@@ -94,6 +97,7 @@ abbrev pub extents_text : List (ℕ × ℕ) → List ℕ
 extents_text [] = []
 extents_text (x ∷ more) = extent_text x ++ comma_before more ++ extents_text more
 
+-- The mode of a file: whether it may be written.
 abbrev pub mode_text : Bool → List ℕ
 mode_text writable = if writable then codes " rw" else codes " ro"
 

@@ -183,6 +183,7 @@ module _ (st : ℕ) (ft : Option RunFault) (g : Given) (o : Outside) (what : Ask
   close-failed f new w i disk at small last since told front kept tables (ending.Opening x) c = absurd c
   close-failed f new w i disk at small last since told front kept tables (ending.Showing x) c = absurd c
   close-failed f new w i disk at small last since told front kept tables (ending.Checked t) c = absurd c
+  close-failed f new w i disk at small last since told front kept tables (ending.Informed t) c = absurd c
 
   -- the disk of a fault since the processes ran
   fault-low : (f : DiskFault) (new : List (ℕ × DiskSeen)) (c : IsCountedSince l.disks new (disk_fault_counts f)) → f.disk < 8
@@ -261,6 +262,7 @@ module _ (st : ℕ) (ft : Option RunFault) (g : Given) (o : Outside) (what : Ask
   shows told front none mid new w r tables ending.OpeningSink h = absurd h
   shows told front none mid new w r tables (ending.Opening x) h = absurd h
   shows told front none mid new w r tables (ending.Checked t) h = absurd h
+  shows told front none mid new w r tables (ending.Informed t) h = absurd h
 
   -- memory lacked
   lacked : (new : List (ℕ × DiskSeen)) → ToldFront plan l.history.entries → (how : Ending) → (c : LacksTable infos k1 o.sink_new l.disks new how)

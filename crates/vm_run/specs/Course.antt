@@ -26,7 +26,8 @@ pub record RunBegan (r0 r1 : RackSeen) (k0 k1 : SinkSeen) (what : Asked) (files 
   pub rack : r1.faults ≡ r0.faults
   pub sink : k1.faults ≡ k0.faults
 
--- Its processes ran, up to another state.
+-- A run began, and its processes ran from one state of the kernel to another; whether it ran
+-- through is told.
 pub record RunPlayed (r0 r1 : RackSeen) (k0 k1 : SinkSeen) (what : Asked) (files : List OpenedFile) (bytes : ℕ → List ℕ) (a : AttachedSeen) (made : FilesSeen) (plan : PlanSeen) (s t : KernelState) (whole : Bool) : Type 0 where
   pub begun : RunBegan r0 r1 k0 k1 what files bytes a made plan s
   pub played : HasPlayed plan s t whole

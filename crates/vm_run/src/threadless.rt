@@ -15,7 +15,7 @@ use crate::beginning::{Begun, begin_plan, finish_run};
 use command_line::Options;
 use plan_runs::play_alone;
 use run_endings::Ending;
-use run_input::{Request, ask, needs_no_thread, tell_answer};
+use run_input::{Request, ask, needs_no_thread, tell_answer, tell_inquiry};
 use run_outcome::{Outcome, Stop, bare_stop, conclude, hand_members, take_rooms};
 use std::alloc::Global;
 use std::marker::Model;
@@ -104,8 +104,8 @@ fn run_whole<K: Sink, R: Rack>(
 /// Runs a script without threads: all of a run, as `run` makes it, where it needs none. It waits for nobody, and ends.
 ///
 /// A script needs no thread where it has one block at most, which neither forks nor waits, and no turn of the pageout daemon is
-/// asked for; and where nothing is run, as the words or the script are refused, or a trace is checked. Any other script is handed
-/// back once it was read, for `run_on_threads`.
+/// asked for; and where nothing is run, as the words or the script are refused, a trace is checked, or the program tells of itself. Any
+/// other script is handed back once it was read, for `run_on_threads`.
 pub fn run_alone<S: Source, K: Sink, R: Rack>(
     alloc: Global,
     words: &[String],
@@ -141,6 +141,10 @@ pub fn run_alone<S: Source, K: Sink, R: Rack>(
         }
         Ok(Request::Check(answer)) => {
             let ending = tell_answer(alloc, answer, out);
+            Ok(conclude(alloc, bare_stop(alloc, ending), out))
+        }
+        Ok(Request::Ask(inquiry)) => {
+            let ending = tell_inquiry(inquiry, out);
             Ok(conclude(alloc, bare_stop(alloc, ending), out))
         }
         Err(ending) => Ok(conclude(alloc, bare_stop(alloc, ending), out)),

@@ -16,10 +16,12 @@ abbrev pub after_line : List ℕ → List ℕ
 after_line [] = []
 after_line (b ∷ bytes) = if is_feed b then bytes else after_line bytes
 
+-- What follows the spaces in front of a text.
 abbrev pub after_spaces : List ℕ → List ℕ
 after_spaces [] = []
 after_spaces (b ∷ bytes) = if is_space b then after_spaces bytes else b ∷ bytes
 
+-- What follows the bytes of a field in front of a text, from 0x21 to 0x7e.
 abbrev pub after_graphic : List ℕ → List ℕ
 after_graphic [] = []
 after_graphic (b ∷ bytes) = if is_graphic b then after_graphic bytes else b ∷ bytes
@@ -29,6 +31,7 @@ abbrev pub field_of : List ℕ → List ℕ
 field_of [] = []
 field_of (b ∷ bytes) = if ends_field b then [] else b ∷ field_of bytes
 
+-- What follows the field in front of a text, its space or line feed first.
 abbrev pub after_field : List ℕ → List ℕ
 after_field [] = []
 after_field (b ∷ bytes) = if ends_field b then b ∷ bytes else after_field bytes

@@ -25,11 +25,13 @@ call_with_file names name (call.Read file offset len) = call.Read (file_number n
 call_with_file names name (call.Truncate file len) = call.Truncate (file_number names name file) len
 call_with_file names name c = c
 
+-- What a line does, with the number of the file that it names; a line that names none stays.
 abbrev pub act_with_file : List (List ℕ) → PlanAct → PlanAct
 act_with_file names (act.Named name c) = act.Named name (call_with_file names name c)
 act_with_file names (act.Write name file offset bytes) = act.Write name (file_number names name file) offset bytes
 act_with_file names a = a
 
+-- The line with the number of the file that it names.
 abbrev pub line_with_file : List (List ℕ) → PlanLine → PlanLine
 line_with_file names l = record { line = l.line; process = l.process; act = act_with_file names l.act }
 

@@ -3,6 +3,7 @@ use Rattle.std.specs.Prelude.{◌≡◌}
 use Rattle.vm_script.specs.declared.open_plan.Growing.TheInside.{Inside}
 use Rattle.vm_script.specs.Plans.{OpenPlan, has_setup, gives_frames, gives_swap, gives_translations}
 
+-- The plan so far, as it is kept.
 abbrev pub open_plan_of : Inside → OpenPlan
 open_plan_of g = record { setup = g.setup.items; lines = g.lines.items; parents = g.parents.items; inside = g.inside }
 

@@ -2,9 +2,11 @@
 use Rattle.std.specs.Prelude.{ℕ, ◌==◌, Bool, true, false, ◌&&◌, List, [], ◌∷◌, filter, nat_le, if◌then◌else◌}
 use Rattle.std.specs.List.{slice_split, onto_first}
 
+-- A line feed.
 abbrev pub is_feed : ℕ → Bool
 is_feed b = b == 10
 
+-- A space.
 abbrev pub is_space : ℕ → Bool
 is_space b = b == 32
 
@@ -21,6 +23,7 @@ abbrev pub lines : List ℕ → List (List ℕ)
 lines [] = []
 lines (b ∷ bytes) = if is_feed b then [] ∷ lines bytes else onto_first b (lines bytes)
 
+-- There is a byte.
 abbrev pub isnt_empty : List ℕ → Bool
 isnt_empty [] = false
 isnt_empty (b ∷ bytes) = true

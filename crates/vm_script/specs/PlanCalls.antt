@@ -4,6 +4,7 @@ use Rattle.flat_model.specs.vm_types.declared.call.Call.TheVariants as call
 use Rattle.vm_script.specs.declared.plan_call.KeptCall.{KeptCall}
 use Rattle.vm_script.specs.declared.plan_call.KeptCall.TheVariants as kept
 
+-- The call that is kept so.
 abbrev pub call_kept : KeptCall → Call
 call_kept (kept.Load addr size) = call.Load addr size
 call_kept (kept.Store addr size value) = call.Store addr size value

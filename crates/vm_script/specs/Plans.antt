@@ -58,14 +58,17 @@ with_statement g n says.Fork = with_new_block (with_line g n (act.Call (call.For
 with_statement g n says.End = without_block (with_line g n (act.Call call.Exit))
 with_statement g n (says.Own a) = with_line g n a
 
+-- The line gives the page frames.
 abbrev pub gives_frames : SetupAct → Bool
 gives_frames (given.Frames n) = true
 gives_frames a = false
 
+-- The line gives the swap slots.
 abbrev pub gives_swap : SetupAct → Bool
 gives_swap (given.Swap n) = true
 gives_swap a = false
 
+-- The line gives the translations.
 abbrev pub gives_translations : SetupAct → Bool
 gives_translations (given.Translations n) = true
 gives_translations a = false

@@ -23,6 +23,7 @@ use Rattle.vm_script.specs.Lines.{is_graphic}
 use Rattle.vm_script.specs.Statements.{unknown_file}
 use Rattle.vm_script.specs.Plans.{OpenPlan, with_statement, spot_of}
 
+-- PLACE, as it is printed: `any`, or an address.
 abbrev pub place_text : Place → List ℕ
 place_text (At a) = decimal a
 place_text Any = codes "any"
@@ -39,6 +40,7 @@ call_fields name (call.Read file offset len) = codes "read" ∷ name ∷ decimal
 call_fields name (call.Truncate file len) = codes "truncate" ∷ name ∷ decimal len ∷ []
 call_fields name c = []
 
+-- The fields of a line of a block.
 abbrev pub act_fields : PlanAct → List (List ℕ)
 act_fields (act.Call c) = call_fields (codes "zero") c
 act_fields (act.Named name c) = call_fields name c
@@ -50,6 +52,7 @@ abbrev pub content_text : List ℕ → List ℕ
 content_text [] = codes "-"
 content_text (b ∷ bytes) = hex_text (b ∷ bytes)
 
+-- The fields of a set-up line.
 abbrev pub setup_fields : SetupAct → List (List ℕ)
 setup_fields (given.Frames n) = codes "frames" ∷ decimal n ∷ []
 setup_fields (given.Swap n) = codes "swap" ∷ decimal n ∷ []
@@ -80,6 +83,7 @@ line_of_fields (field ∷ next ∷ more) = field ++ 32 ∷ line_of_fields (next 
 abbrev pub script_text : List Statement → List ℕ
 script_text ss = flat_map (λ s. line_of_fields (statement_fields s) ++ 10 ∷ []) ss
 
+-- Each number is a byte.
 abbrev pub AreBytes : List ℕ → Type 0
 AreBytes bytes = All IsByte bytes
 
@@ -104,12 +108,14 @@ IsNamedCall (call.Read file offset len) = (file ≡ unknown_file) × IsNumber of
 IsNamedCall (call.Truncate file len) = (file ≡ unknown_file) × IsNumber len
 IsNamedCall c = ⊥
 
+-- What a line of a block may say, its file's number not known yet.
 abbrev pub IsPlanAct : PlanAct → Type 0
 IsPlanAct (act.Call c) = IsPlainCall c
 IsPlanAct (act.Named name c) = IsTrue (is_file_name name) × IsNamedCall c
 IsPlanAct (act.Write name file offset bytes) = IsTrue (is_file_name name) × (file ≡ unknown_file) × IsNumber offset × IsContent bytes
 IsPlanAct act.Wait = Unit {0}
 
+-- What a set-up line may say.
 abbrev pub IsSetupAct : SetupAct → Type 0
 IsSetupAct (given.Frames n) = IsNumber n
 IsSetupAct (given.Swap n) = IsNumber n

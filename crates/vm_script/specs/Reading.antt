@@ -22,11 +22,12 @@ or_fault kind (Some x) = Ok x
 abbrev pub need : ScriptKind → Bool → Result (Unit {0}) ScriptKind
 need kind b = if b then Ok tt else Err kind
 
--- What a function returned, seen by view, is what reading gives, unless memory ran out.
+-- Reading gives this fault; of want of memory nothing is said.
 abbrev pub Fails : {Y : Type 0} → ReadError → Result Y ScriptKind → Type 0
 Fails errors.Memory read = Unit {0}
 Fails (errors.Fault kind) read = read ≡ Err kind
 
+-- What a function returned, seen by view, is what reading gives, unless memory ran out.
 abbrev pub IsReadAs : {X Y : Type 0} → (X → Y) → Result X ReadError → Result Y ScriptKind → Type 0
 IsReadAs view (Ok x) read = read ≡ Ok (view x)
 IsReadAs view (Err e) read = Fails e read

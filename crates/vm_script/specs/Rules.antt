@@ -21,6 +21,7 @@ with_amount amounts l = elim l.act [
 abbrev pub amounts_of : List SetupLine → Amounts
 amounts_of setup = fold with_amount (record { frames = 64; slots = 64; translations = 256 }) setup
 
+-- The line gives a disk.
 abbrev pub gives_a_disk : SetupAct → Bool
 gives_a_disk (given.Blank disk blocks) = true
 gives_a_disk (given.Path disk path) = true
@@ -36,6 +37,7 @@ gives_disk d a = false
 abbrev pub disk_line_count : List SetupLine → ℕ
 disk_line_count setup = count_by (λ l. gives_a_disk l.act) setup + (if (amounts_of setup).slots == 0 then 0 else 1)
 
+-- The number lies from low to high, both included.
 abbrev pub is_from_to : ℕ → ℕ → ℕ → Bool
 is_from_to low high n = nat_le low n && nat_le n high
 
@@ -101,6 +103,7 @@ is_wrong_second setup other = not (can_be_joined setup other) || list_any (λ l.
 abbrev pub is_wrong_pair : List SetupLine → ℕ → ℕ → Bool
 is_wrong_pair setup disk other = is_wrong_first setup disk other || is_wrong_second setup other
 
+-- The line joins two disks of which one is wrong in its place.
 abbrev pub is_wrong_join : List SetupLine → SetupAct → Bool
 is_wrong_join setup (given.Join disk other mirror) = is_wrong_pair setup disk other
 is_wrong_join setup a = false

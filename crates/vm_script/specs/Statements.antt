@@ -19,13 +19,15 @@ use Rattle.vm_script.specs.declared.statement.LineSpot.{LineSpot}
 use Rattle.vm_script.specs.Fields.{is_word, number_of_field, is_file_name, bytes_of_field}
 use Rattle.vm_script.specs.Reading.{◌>>=◌, ◌>>◌, or_fault, need}
 
--- NUMBER, NAME and BYTES, each with its own fault.
+-- NUMBER, or the fault `number`.
 abbrev pub number : List ℕ → Result ℕ ScriptKind
 number field = or_fault fault.Number (number_of_field field)
 
+-- NAME, or the fault `name`.
 abbrev pub name : List ℕ → Result (List ℕ) ScriptKind
 name field = if is_file_name field then Ok field else Err fault.Name
 
+-- BYTES, or the fault `bytes`.
 abbrev pub bytes : List ℕ → Result (List ℕ) ScriptKind
 bytes field = or_fault fault.Bytes (bytes_of_field field)
 
@@ -91,7 +93,7 @@ map_object at len rights k shown o =
     if is_word shown (codes "zero") then (number o >>= λ offset. Ok (act.Call (call.Map at len rights k object.NewZero offset)))
     else (name shown >>= λ file. number o >>= λ offset. Ok (act.Named file (call.Map at len rights k (object.File unknown_file) offset)))
 
--- `map PLACE LENGTH PROT KIND OBJECT OFFSET`
+-- What a map's six fields say.
 unfoldable pub map_of : List ℕ → List ℕ → List ℕ → List ℕ → List ℕ → List ℕ → Result PlanAct ScriptKind
 map_of a l p k shown o = do
   at ← place a
@@ -100,6 +102,7 @@ map_of a l p k shown o = do
   shares ← kind k
   map_object at len rights shares shown o
 
+-- `map PLACE LENGTH PROT KIND OBJECT OFFSET`
 unfoldable pub map_line : List (List ℕ) → Result PlanAct ScriptKind
 map_line (a ∷ l ∷ p ∷ k ∷ shown ∷ o ∷ []) = map_of a l p k shown o
 map_line args = Err fault.Count
@@ -120,7 +123,7 @@ sync_line (a ∷ l ∷ []) = do
   Ok (act.Call (call.Sync addr len))
 sync_line args = Err fault.Count
 
--- `protect A LENGTH PROT`
+-- What a protect's three fields say.
 unfoldable pub protect_of : List ℕ → List ℕ → List ℕ → Result PlanAct ScriptKind
 protect_of a l p = do
   addr ← number a
@@ -128,11 +131,12 @@ protect_of a l p = do
   rights ← prot p
   Ok (act.Call (call.Protect addr len rights))
 
+-- `protect A LENGTH PROT`
 unfoldable pub protect_line : List (List ℕ) → Result PlanAct ScriptKind
 protect_line (a ∷ l ∷ p ∷ []) = protect_of a l p
 protect_line args = Err fault.Count
 
--- `read NAME OFFSET LENGTH`, with LENGTH from 1 to 65,536
+-- What a read's three fields say: LENGTH is from 1 to 65,536.
 unfoldable pub read_of : List ℕ → List ℕ → List ℕ → Result PlanAct ScriptKind
 read_of n o l = do
   file ← name n
@@ -141,11 +145,12 @@ read_of n o l = do
   need fault.Value (nat_le 1 len && nat_le len 65536)
   Ok (act.Named file (call.Read unknown_file offset len))
 
+-- `read NAME OFFSET LENGTH`
 unfoldable pub read_call_line : List (List ℕ) → Result PlanAct ScriptKind
 read_call_line (n ∷ o ∷ l ∷ []) = read_of n o l
 read_call_line args = Err fault.Count
 
--- `write NAME OFFSET BYTES`
+-- What a write's three fields say.
 unfoldable pub write_of : List ℕ → List ℕ → List ℕ → Result PlanAct ScriptKind
 write_of n o b = do
   file ← name n
@@ -153,6 +158,7 @@ write_of n o b = do
   text ← bytes b
   Ok (act.Write file unknown_file offset text)
 
+-- `write NAME OFFSET BYTES`
 unfoldable pub write_line : List (List ℕ) → Result PlanAct ScriptKind
 write_line (n ∷ o ∷ b ∷ []) = write_of n o b
 write_line args = Err fault.Count
@@ -179,7 +185,7 @@ amount args = Err fault.Count
 unfoldable pub path : List ℕ → Result (List ℕ) ScriptKind
 path field = need fault.Value (nat_le (length field) 255) >> Ok field
 
--- `disk D blank N` and `disk D path P`
+-- What a disk line's three fields say.
 unfoldable pub disk_setup : List ℕ → List ℕ → List ℕ → Result SetupAct ScriptKind
 disk_setup d form x =
     number d >>= λ disk.
@@ -187,6 +193,7 @@ disk_setup d form x =
     else if is_word form (codes "path") then (path x >>= λ p. Ok (given.Path disk p))
     else Err fault.Value
 
+-- `disk D blank N` and `disk D path P`
 unfoldable pub disk : List (List ℕ) → Result SetupAct ScriptKind
 disk (d ∷ form ∷ x ∷ []) = disk_setup d form x
 disk args = Err fault.Count
@@ -198,7 +205,7 @@ join_form field =
     else if is_word field (codes "mirror") then Ok true
     else Err fault.Value
 
--- `join D stripe E` and `join D mirror E`
+-- What a join line's three fields say.
 unfoldable pub join_setup : List ℕ → List ℕ → List ℕ → Result SetupAct ScriptKind
 join_setup d form e = do
   disk ← number d
@@ -206,6 +213,7 @@ join_setup d form e = do
   other ← number e
   Ok (given.Join disk other mirror)
 
+-- `join D stripe E` and `join D mirror E`
 unfoldable pub join : List (List ℕ) → Result SetupAct ScriptKind
 join (d ∷ form ∷ e ∷ []) = join_setup d form e
 join args = Err fault.Count
@@ -214,7 +222,7 @@ join args = Err fault.Count
 unfoldable pub content : List ℕ → Result (List ℕ) ScriptKind
 content field = if is_word field (codes "-") then Ok [] else bytes field
 
--- `file NAME MODE D PAGES BYTES`
+-- What a file line's five fields say.
 unfoldable pub file_setup : List ℕ → List ℕ → List ℕ → List ℕ → List ℕ → Result SetupAct ScriptKind
 file_setup n m d p b = do
   named ← name n
@@ -224,13 +232,16 @@ file_setup n m d p b = do
   text ← content b
   Ok (given.File named writable on pages text)
 
+-- `file NAME MODE D PAGES BYTES`
 unfoldable pub file : List (List ℕ) → Result SetupAct ScriptKind
 file (n ∷ m ∷ d ∷ p ∷ b ∷ []) = file_setup n m d p b
 file args = Err fault.Count
 
+-- A line of a block says this.
 abbrev pub own_statement : Result PlanAct ScriptKind → Result Statement ScriptKind
 own_statement r = r >>= λ a. Ok (says.Own a)
 
+-- A set-up line says this.
 abbrev pub setup : Result SetupAct ScriptKind → Result Statement ScriptKind
 setup r = r >>= λ a. Ok (says.Setup a)
 
@@ -284,6 +295,7 @@ word_statement spot word args =
     else if is_word word (codes "store") then (need fault.Place spot.inside >> own_statement (store_line args))
     else mapping_statement spot word args
 
+-- The first field begins with `#`.
 abbrev pub is_comment : List ℕ → Bool
 is_comment [] = false
 is_comment (b ∷ bytes) = b == 35

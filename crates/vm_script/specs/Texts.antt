@@ -17,9 +17,11 @@ byte_text b = hex_digit (b / 16) ∷ hex_digit (b % 16) ∷ []
 abbrev pub hex_text : List ℕ → List ℕ
 hex_text bytes = flat_map byte_text bytes
 
+-- PROT, as it is printed.
 abbrev pub prot_text : Prot → List ℕ
 prot_text p = if p.0 == 0 then codes "none" else if p.0 == 1 then codes "r" else if p.0 == 2 then codes "w" else codes "rw"
 
+-- KIND, as it is printed.
 abbrev pub kind_text : Kind → List ℕ
 kind_text kinds.Shared = codes "shared"
 kind_text kinds.Private = codes "private"

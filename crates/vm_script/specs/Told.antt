@@ -34,12 +34,13 @@ abbrev pub parent_of : List ℕ → ℕ → Option ℕ
 parent_of parents zero = None
 parent_of parents (suc i) = slice_get parents i
 
--- A block is born where it is a top block or its Fork was done.
+-- Whether a process with this parent is born: a top block is, and another one where its Fork was done.
 abbrev pub is_born_of : Option ℕ → ℕ → List Entry → Bool
 is_born_of None p H = false
 is_born_of (Some zero) p H = true
 is_born_of (Some (suc r)) p H = list_any (is_birth p) H
 
+-- A block is born where it is a top block or its Fork was done.
 abbrev pub is_born : PlanSeen → List Entry → ℕ → Bool
 is_born plan H p = is_born_of (parent_of plan.parents p) p H
 

@@ -23,20 +23,23 @@ use Rattle.vm_world.specs.State.{KernelState, Seats, notes_of}
 use Rattle.vm_world.specs.StateFits.{StateFits}
 use Rattle.vm_world.specs.World.{slot_name}
 
--- Three pages of private memory of process 1, from page 1 on.
+-- A segment of three private pages of new zero memory, with anon map 0 as its own.
 abbrev pub busy_segment : Segment
 busy_segment = record { pages = 3; prot = record { 0 = 3 }; max = record { 0 = 3 }; kind = Private; object = object.NewZero; index = 0; own = Some 0; shown = None }
 
+-- The three private pages as a part of a space, from page 1 on.
 abbrev pub busy_part : Part Segment
 busy_part = record { first = 1; pages = 3; piece = busy_segment }
 
+-- Process 1 alone is alive, with the part of three private pages.
 abbrev pub busy_spaces : Spaces
 busy_spaces = finite.insert finite.empty 1 (busy_part ∷ [])
 
--- Each has a slot; the pages of the first two were pushed.
+-- One anon map, with one holder: each of its three places has a slot.
 abbrev pub busy_maps : List (Option Map)
 busy_maps = Some (record { places = Some 0 ∷ Some 1 ∷ Some 2 ∷ []; holders = 1 }) ∷ []
 
+-- Three slots, each counted once and reserved; the pages of the first two were pushed.
 abbrev pub busy_slots : AnonSlotsSeen
 busy_slots = record { counts = 1 ∷ 1 ∷ 1 ∷ []; swapped = true ∷ true ∷ false ∷ []; reserved = 3 }
 
@@ -58,6 +61,7 @@ busy_store page = record {
 abbrev pub busy_hat : HatSeen
 busy_hat = record { places = Some (record { space = 1; page = 3; frame = 0; writable = true; referenced = true; modified = true }) ∷ []; hand = 0; frames = 2 }
 
+-- Memory of process 1 with its three private pages, their slots and frames, and no file.
 abbrev pub busy_memory : Page → Memory
 busy_memory page = record { world = record { store = busy_store page; anon = busy_slots; maps = busy_maps; hat = busy_hat; files = no_files }; spaces = busy_spaces }
 
@@ -65,10 +69,11 @@ busy_memory page = record { world = record { store = busy_store page; anon = bus
 abbrev pub busy_disk : Page → DiskSeen
 busy_disk page = record { content = Some (page ∷ page ∷ page ∷ []); size = 3; kind = one_disk; faults = 0; calls = 0 }
 
--- What seat 1 has outside: the second page, to be written, for the clock.
+-- What seat 1 has outside: the second page, to be written to the swap disk.
 abbrev pub busy_note : Page → Note
 busy_note page = record { seat = 1; origin = 0; number = 8; disk = busy_disk page; writes = true; name = slot_name 1; block = 1; valid = 4096; frame = 1; bytes = page }
 
+-- Seat 1 has its note outside, for the clock; no other seat has anything.
 abbrev pub busy_seats : Page → Seats
 busy_seats page seat = if seat == 1 then Some (record { note = busy_note page; of = None }) else None
 

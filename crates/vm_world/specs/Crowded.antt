@@ -39,34 +39,38 @@ crowded_part own = record {
   piece = record { pages = 1; prot = record { 0 = 3 }; max = record { 0 = 3 }; kind = Private; object = object.NewZero; index = 0; own = Some own; shown = None };
 }
 
--- The process that was alive from the start; and with it the child that it bore.
+-- The space of process 1, which was alive from the start.
 abbrev pub crowded_parent : Spaces
 crowded_parent = finite.insert finite.empty 1 (crowded_part 0 ∷ [])
 
+-- The spaces of process 1 and of process 2, the child that it bore.
 abbrev pub crowded_spaces : Spaces
 crowded_spaces = finite.insert crowded_parent 2 (crowded_part 1 ∷ [])
 
--- Both maps hold slot 0, as a fork leaves them, so it counts twice; its page is in swap alone. Slot 1 is in use no more.
+-- Two anon maps of one place each, which both hold slot 0, as a fork leaves them.
 abbrev pub crowded_maps : List (Option Map)
 crowded_maps = Some (record { places = Some 0 ∷ []; holders = 1 }) ∷ Some (record { places = Some 0 ∷ []; holders = 1 }) ∷ []
 
+-- Slot 0 counts twice, and its page is in swap alone; slot 1 is in use no more.
 abbrev pub crowded_slots : AnonSlotsSeen
 crowded_slots = record { counts = 2 ∷ 0 ∷ []; swapped = true ∷ false ∷ []; reserved = 2 }
 
--- File 0 has two pages on disk 0, the second with a tail, and file 1 a part of a page on disk 1.
+-- File 0 has two pages on disk 0, the second with a tail.
 abbrev pub crowded_info : FileInfo
 crowded_info = record { name = 97 ∷ []; disk = 0; extents = record { start = 1; pages = 2 } ∷ []; length = 5000; writable = true }
 
+-- File 1 has a part of a page on disk 1.
 abbrev pub crowded_other : FileInfo
 crowded_other = record { name = 98 ∷ []; disk = 1; extents = record { start = 1; pages = 1 } ∷ []; length = 100; writable = true }
 
+-- The two files, on disk 0 of three blocks and disk 1 of two; none of their pages is blank.
 abbrev pub crowded_files : FilesSeen
 crowded_files = record {
   disks = finite.insert (finite.insert finite.empty 0 3) 1 2;
   files = record { info = crowded_info; blanks = false ∷ false ∷ [] } ∷ record { info = crowded_other; blanks = false ∷ [] } ∷ [];
 }
 
--- Each disk has the page in all of its blocks.
+-- A disk of so many blocks, which has these pages in them and counted no fault.
 abbrev pub crowded_disk : List Page → ℕ → DiskSeen
 crowded_disk pages size = record { content = Some pages; size = size; kind = one_disk; faults = 0; calls = 0 }
 
@@ -93,6 +97,7 @@ crowded_store page = record {
 abbrev pub crowded_hat : HatSeen
 crowded_hat = record { places = []; hand = 0; frames = 4 }
 
+-- Memory of the two processes and the two files, where no translation is loaded.
 abbrev pub crowded_memory : Page → Memory
 crowded_memory page = record {
   world = record { store = crowded_store page; anon = crowded_slots; maps = crowded_maps; hat = crowded_hat; files = crowded_files };
@@ -107,6 +112,7 @@ crowded_snapshot page = record { seat = 1; origin = 0; number = 1; disk = crowde
 abbrev pub crowded_gone : Page → Note
 crowded_gone page = record { seat = 2; origin = 0; number = 8; disk = crowded_disk (page ∷ page ∷ []) 2; writes = true; name = slot_name 1; block = 1; valid = 4096; frame = 3; bytes = page }
 
+-- Seat 1 has the snapshot outside, seat 2 the page that is gone, both for the clock.
 abbrev pub crowded_seats : Page → Seats
 crowded_seats page = seats_of (None ∷ Some (record { note = crowded_snapshot page; of = None }) ∷ Some (record { note = crowded_gone page; of = None }) ∷ [])
 
@@ -118,10 +124,11 @@ crowded_file page = file_with_pages (λ index. page) crowded_info
 abbrev pub crowded_birth : Entry
 crowded_birth = record { process = 1; call = Fork 2; reply = Done; cleared = 0 }
 
--- Then it has read the first part of 100 bytes of file 0.
+-- Process 1 has read the first part of 100 bytes of file 0.
 abbrev pub crowded_read : Page → Entry
 crowded_read page = record { process = 1; call = Read 0 0 100; reply = Bytes (read_line (crowded_file page) 0 100); cleared = 0 }
 
+-- The history: process 1 has borne process 2, and then read a part of file 0.
 abbrev pub crowded_history : Page → List Entry
 crowded_history page = crowded_birth ∷ crowded_read page ∷ []
 

@@ -15,7 +15,7 @@ seen_in seen missing notes = None
 seen_in seen (home disk) notes = Some (seen disk)
 seen_in seen (out seat) notes = seen_of_note seen (notes seat)
 
--- Its count of faults.
+-- The count of faults of a disk, at home or in a note; none where the bay is empty.
 abbrev pub faults_in : BaySeen → Notes → Option ℕ
 faults_in bay notes = seen_in (λ disk. disk.faults) bay notes
 
@@ -31,6 +31,7 @@ pub record FixedOfDisk : Type 0 where
   pub kind : DiskKind
   pub tells : Bool
 
+-- What never changes of this disk.
 abbrev pub disk_fixed : DiskSeen → FixedOfDisk
 disk_fixed disk = record { size = disk.size; kind = disk.kind; tells = is_some disk.content }
 

@@ -42,7 +42,8 @@ abbrev pub AccountsForBlocks : Flat → KernelState → Notes → KernelState �
 AccountsForBlocks F s before t after =
     AllTell t.memory.world after → AllTell s.memory.world before × AccountsFor F (moment_of s before) (moment_of t after)
 
--- The same one step on: from whichever moment the blocks were accounted for up to the one state, they are up to the other.
+-- WHERE THE DISKS TELL, they told before; and from whichever moment each block was accounted for up
+-- to the one state, it is up to the other.
 abbrev pub KeepsAccounts : Flat → KernelState → Notes → KernelState → Notes → Type 0
 KeepsAccounts F s before t after =
     AllTell t.memory.world after → AllTell s.memory.world before

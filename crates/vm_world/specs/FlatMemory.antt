@@ -83,6 +83,7 @@ flat_shaped s born c = record {
   born = born;
 }
 
+-- The shape of memory: all of it that no access, fault or transfer changes.
 abbrev pub shape_of : Memory → Shape
 shape_of m = record {
   slots = length m.world.anon.counts;

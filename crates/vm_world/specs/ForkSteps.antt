@@ -53,6 +53,7 @@ times_owned m p slot = sum_by (λ (x : Part Segment). count_by (is_number slot) 
 abbrev pub copied_piece : ℕ → Segment → Segment
 copied_piece number s = record s { own = option_map (λ (own : ℕ). number) s.own }
 
+-- A copy of a part at the same pages, with another map of its own, if it has one.
 abbrev pub copied_part : ℕ → Part Segment → Part Segment
 copied_part number x = part x.first x.pages (copied_piece number x.piece)
 
@@ -95,10 +96,11 @@ cells_copied to from first (suc n) = option_map_or (λ c. finite.insert (cells_c
 abbrev pub with_cells_copied : Flat → ℕ → ℕ → ℕ → ℕ → Flat
 with_cells_copied F p child first n = with_space F child (cells_copied (cells_of F child) (cells_of F p) first n)
 
--- Memory with a process more, which has no part; and flat memory with it, in which it was ever alive.
+-- Memory with a process more, which has no part.
 abbrev pub with_empty_process : Memory → ℕ → Memory
 with_empty_process m p = record m { spaces = finite.insert m.spaces p [] }
 
+-- Flat memory with a process more, which has no cell; it was ever alive then.
 abbrev pub with_child_born : Flat → ℕ → Flat
 with_child_born F p = with_space (record F { born = set.insert F.born p }) p finite.empty
 

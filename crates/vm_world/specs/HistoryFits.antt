@@ -22,6 +22,7 @@ use Rattle.vm_world.specs.DiskPlaces.{HasCounted, faults_in}
 use Rattle.vm_world.specs.Segments.{Spaces}
 use Rattle.vm_world.specs.State.{process_parent, room_of, is_top}
 
+-- The call is an Exit.
 abbrev pub is_exit : Call → Bool
 is_exit Exit = true
 is_exit call = false
@@ -54,10 +55,11 @@ pub record RoomsFit (H : List Entry) (parents entries : List ℕ) : Type 0 where
   pub made : (p : ℕ) → length (entries_of H p) ≤ room_of entries p
   pub forks : (k child : ℕ) (e : Entry) → slice_get H k ≡ Some e → e.call ≡ Fork child → process_parent parents child ≡ Some e.process
 
--- The entry is an Exit of the process; and the process made one.
+-- The entry is an Exit of the process.
 abbrev pub is_exit_of : ℕ → Entry → Bool
 is_exit_of p e = if e.process == p then is_exit e.call else false
 
+-- The process made an Exit, by the history.
 abbrev pub has_left : ℕ → List Entry → Bool
 has_left p H = list_any (is_exit_of p) H
 

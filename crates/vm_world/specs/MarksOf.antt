@@ -19,7 +19,7 @@ use Rattle.vm_world.specs.World.{World, world_table, AllTell}
 abbrev pub MarksOf : Flat → KernelState → Seats → MarksSeen → Type 0
 MarksOf opening s seats m = AllTell s.memory.world (notes_of seats) → MarksFit opening s.history (content_of s.memory.world.store (notes_of seats)) (notes_of seats) m
 
--- The counts that they name are of failures, whether disks tell or not.
+-- The counts that the marks name are of failures, whether disks tell or not.
 abbrev pub FailuresOf : KernelState → Seats → MarksSeen → Type 0
 FailuresOf s seats m = FailuresFit (λ disk. faults_in (bay_at s.memory.world.store.bays disk) (notes_of seats)) m
 

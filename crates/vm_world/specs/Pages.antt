@@ -16,10 +16,11 @@ pub record Contents : Type 0 where
 abbrev pub page_value : World → Notes → PageName → Page
 page_value w notes name = if is_page_name w.files w.anon name then value w.store notes (world_table w) name else []
 
--- No file has the number of the swap area.
+-- The page at an index of a file; none of the number of the swap area, which no file has.
 abbrev pub file_contents : (PageName → Page) → ℕ → ℕ → Page
 file_contents page file index = if file == 64 then [] else page (file_name file index)
 
+-- The page of the slot that a place of an anon map holds; none where it holds no slot.
 abbrev pub place_contents : (PageName → Page) → List (Option Map) → ℕ → ℕ → Option Page
 place_contents page maps number place = option_map (λ slot. page (slot_name slot)) (slot_in maps number place)
 
@@ -27,5 +28,6 @@ place_contents page maps number place = option_map (λ slot. page (slot_name slo
 abbrev pub contents_by : (PageName → Page) → List (Option Map) → Contents
 contents_by page maps = record { file = file_contents page; place = place_contents page maps }
 
+-- The contents of the world, with what the seats have outside.
 abbrev pub contents_of : World → Notes → Contents
 contents_of w notes = contents_by (page_value w notes) w.maps

@@ -36,22 +36,26 @@ with_segments m maps reserved p parts = record { world = record m.world { anon =
 abbrev pub upper_pages : ℕ → ℕ → Segment → Segment
 upper_pages n number s = record s { pages = s.pages - n; index = s.index + n; own = option_map (λ (own : ℕ). number) s.own }
 
--- A part is cut in two before a page: its own map is cut, and what the upper part has is the new map; the map of the zero object that it shows has a
--- holder more.
+-- The parts, one of which is cut in two before a page; the upper one's own map has this number.
 abbrev pub parts_cut : ℕ → ℕ → Part Segment → List (Part Segment) → List (Part Segment)
 parts_cut page number x parts = cut_at page (upper_pages (page - x.first) number x.piece) (with_new_piece page (first_pages (page - x.first) x.piece) parts)
 
+-- Memory with a part cut in two before a page: its own map is cut, and what the upper part has is
+-- the new map; the map of the zero object that it shows has a holder more.
 abbrev pub with_part_cut : Memory → ℕ → ℕ → ℕ → List (Part Segment) → Part Segment → Memory
 with_part_cut m p page number parts x =
     with_segments m (maps_held (maps_cut m.world.maps x.piece.own number (page - x.first)) x.piece.shown) m.world.anon.reserved p (parts_cut page number x parts)
 
--- A part goes: its own map goes, the map of the zero object that it shows has a holder less, and the places of the maps that go are reserved no more.
+-- The anon maps once a segment goes: its own map goes, and that of the zero object that it shows
+-- has a holder less.
 abbrev pub maps_left : List (Option Map) → Segment → List (Option Map)
 maps_left maps s = maps_released (maps_released maps s.own) s.shown
 
+-- How many places go with the anon maps that go as a segment does.
 abbrev pub places_left : List (Option Map) → Segment → ℕ
 places_left maps s = places_released maps s.own + places_released (maps_released maps s.own) s.shown
 
+-- Memory once a part goes, with its maps; the places of the maps that go are reserved no more.
 abbrev pub with_part_gone : Memory → ℕ → List (Part Segment) → Part Segment → Memory
 with_part_gone m p parts x = with_segments m (maps_left m.world.maps x.piece) (m.world.anon.reserved - places_left m.world.maps x.piece) p (without_part x.first parts)
 
@@ -84,6 +88,8 @@ pub record MayCome (m : Memory) (parts : List (Part Segment)) (x : Part Segment)
   pub own : IsOwnNew m.world.maps x.piece x.piece.kind
   pub room : m.world.anon.reserved + slots_for_part x ≤ length m.world.anon.counts
 
+-- Memory once a part comes: its own map is new and empty, the map of the zero object that it shows
+-- has a holder more, and the slots that it reserves are reserved.
 abbrev pub with_part_come : Memory → ℕ → List (Part Segment) → Part Segment → Memory
 with_part_come m p parts x =
     with_segments m (maps_held (maps_made m.world.maps x.piece.own x.piece.pages) x.piece.shown) (m.world.anon.reserved + slots_for_part x) p (with_new_part x parts)
@@ -99,6 +105,8 @@ pub record MayMakeZero (m : Memory) (parts : List (Part Segment)) (x : Part Segm
   pub unused : IsUnused m.world.maps number
   pub room : m.world.anon.reserved + x.pages ≤ length m.world.anon.counts
 
+-- Memory once a part comes with a new zero object: the object's map is new and empty, and a slot is
+-- reserved for each of its pages.
 abbrev pub with_zero_part : Memory → ℕ → List (Part Segment) → Part Segment → Memory
 with_zero_part m p parts x = with_segments m (maps_made m.world.maps x.piece.shown x.piece.pages) (m.world.anon.reserved + x.pages) p (with_new_part x parts)
 
@@ -110,10 +118,12 @@ with_more_numbers m more = record m { world = record m.world { maps = m.world.ma
 abbrev pub segment_cell : Segment → ℕ → Cell
 segment_cell s i = record { prot = s.prot; max = s.max; kind = s.kind; object = s.object; index = s.index + i; own = own_for s.kind s.object }
 
--- Flat memory with so many cells of a process from a page on; and with a zero object of so many pages of zeros.
+-- Flat memory with so many cells of a process from a page on; a zero object that no cell names any
+-- more is gone.
 abbrev pub with_new_cells : Flat → ℕ → ℕ → ℕ → (ℕ → Cell) → Flat
 with_new_cells F p first n cell = without_unnamed (with_space F p (with_cells (cells_of F p) first n cell))
 
+-- Flat memory with a zero object of so many pages of zeros.
 abbrev pub with_zero_object : Flat → ℕ → ℕ → Flat
 with_zero_object F z n = record F { zeros = finite.insert F.zeros z (replicate n zero_page) }
 

@@ -67,7 +67,8 @@ abbrev pub SaysNone : PageBit → World → World → Type 0
 SaysNone bit old new = (name : PageName) (frame : ℕ) → residence new.store name ≡ Home frame → bit new.store new.hat.places frame
     → (residence old.store name ≡ Home frame) × bit old.store old.hat.places frame
 
--- The same, but for pages that may.
+-- Each home page of which this is said, but for those that may, was home before, in its frame, and
+-- it was said of it.
 abbrev pub SaysOnly : PageBit → (PageName → Type 0) → World → World → Type 0
 SaysOnly bit may old new = (name : PageName) (frame : ℕ) → residence new.store name ≡ Home frame → bit new.store new.hat.places frame
     → may name ⊎ ((residence old.store name ≡ Home frame) × bit old.store old.hat.places frame)

@@ -40,10 +40,11 @@ abbrev pub IsOfAnother : ℕ → Hold → Type 0
 IsOfAnother seat (hold.File t) = t ≢ seat
 IsOfAnother seat h = Unit {0}
 
--- The state with memory and pending tails as they are once a call was served that has to wait; and with the plan that is kept for it.
+-- The state with memory and pending tails as they are once a call was served that has to wait.
 abbrev pub after_wait : KernelState → Memory → ℕ → KernelState
 after_wait s new pending = record s { memory = new; pending = pending; plan = None }
 
+-- The state once a call was served that needs a transfer: with the plan that is kept for it.
 abbrev pub after_need : KernelState → Memory → ℕ → ℕ → ℕ → Call → Plan → KernelState
 after_need s new pending seat p call plan = record s { memory = new; pending = pending; plan = Some (record { seat = seat; plan = plan; of = Some (p, call) }) }
 

@@ -27,7 +27,7 @@ pub record Sent : Type 0 where
 abbrev pub Seats : Type 0
 Seats = ℕ → Option Sent
 
--- The transfers alone.
+-- The transfers alone that the seats have outside.
 abbrev pub notes_of : Seats → Notes
 notes_of seats seat = option_map (λ sent. sent.note) (seats seat)
 
@@ -85,6 +85,7 @@ pub record FileMode : Type 0 where
   pub disk : ℕ
   pub writable : Bool
 
+-- What of this file never changes.
 abbrev pub mode_of : VnodeSeen → FileMode
 mode_of v = record { name = v.info.name; disk = v.info.disk; writable = v.info.writable }
 
@@ -100,6 +101,7 @@ pub record Fixed : Type 0 where
   pub parents : List ℕ
   pub entries : List ℕ
 
+-- What of this state no event changes.
 abbrev pub fixed_of : KernelState → Fixed
 fixed_of s = record {
   core = core_of s.memory.world.store;

@@ -51,7 +51,8 @@ marks_risen w m name j =
     let place = world_table w name in
     if is_unpushed w.files w.anon name then marks_emptied m place.disk place.block name.object name.page j else marks_raised m place.disk place.block j
 
--- THE MARKS STAY TRUE as that of such a page rises; and no push of it is kept then.
+-- THE MARKS STAY TRUE as that of a page which a Sync may raise rises; and no push of the page is
+-- kept then.
 pub record StateRaiseLaw : Type 0 where
   pub raises : (opening : Flat) (s : KernelState) (seats : Seats) (m : MarksSeen) (name : PageName)
       → PagesFit opening s seats → MarksOf opening s seats m → MayRise s.memory.world name

@@ -17,10 +17,12 @@ use Rattle.vm_world.specs.WorldSteps.{stays, leaves, returns, WorldStep, tails_l
 abbrev pub after_step : KernelState → World → ℕ → KernelState
 after_step s new pending = record s { memory = record s.memory { world = new }; pending = pending; plan = None }
 
--- The same as a flight of a seat leaves, and as it comes back: the marks change where it is the push of a file's page.
+-- The state as a flight of a seat leaves: the marks change where it is the push of a file's page.
 abbrev pub after_leaving : KernelState → World → ℕ → ℕ → Note → KernelState
 after_leaving s new pending seat note = record (after_step s new pending) { marks = marks_left s.marks seat note (length s.history) }
 
+-- The state as a flight of a seat comes back: the marks change where it is the push of a file's
+-- page.
 abbrev pub after_return : KernelState → World → ℕ → ℕ → Note → FlightSeen → KernelState
 after_return s new pending seat note f = record (after_step s new pending) { marks = marks_ended s.marks seat note (length s.history) f }
 

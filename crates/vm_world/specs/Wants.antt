@@ -151,7 +151,7 @@ HoldsUp m calls p call (hold.Page t) = (name : PageName) × (WantsHome m p call 
 HoldsUp m calls p call (hold.Disk t) = (plan : Plan) × MayPlan m (Some (p, call)) plan × (bay_at m.world.store.bays (world_table m.world (plan_page plan)).disk ≡ out t)
 HoldsUp m calls p call (hold.File t) = (f : ℕ) × (file_of_call call ≡ Some f) × (slice_index_or calls f None ≡ Some t)
 
--- What may be waited for: another seat, for such a cause.
+-- What a call may wait for: a seat other than its own, which holds it up.
 pub record MayHold (m : Memory) (calls : List (Option ℕ)) (p : ℕ) (call : Call) (h : Hold) : Type 0 where
   pub other : seat_in h ≢ seat_of p
   pub cause : HoldsUp m calls p call h

@@ -23,7 +23,7 @@ pub record World : Type 0 where
   pub hat : HatSeen
   pub files : FilesSeen
 
--- The world of that struct.
+-- The world that specs see of the struct.
 abbrev pub world_seen : {D : Type 0} → rust.World D → World
 world_seen w = record { store = w.store; anon = w.anon; maps = w.maps; hat = w.hat; files = w.files }
 
@@ -32,6 +32,7 @@ pub record StoreCore : Type 0 where
   pub origin : ℕ
   pub order : List ℕ
 
+-- What of this store no event changes.
 abbrev pub core_of : StoreSeen → StoreCore
 core_of s = record { origin = s.origin; order = s.order }
 
@@ -56,10 +57,11 @@ abbrev pub is_unpushed : FilesSeen → AnonSlotsSeen → PageName → Bool
 is_unpushed files anon name =
     if name.object == 64 then not (slice_index_or anon.swapped name.page false) else is_blank (vnode_at files name.object) name.page
 
--- Where each page lives.
+-- Where each page lives, by the files and the slots.
 abbrev pub page_table : FilesSeen → AnonSlotsSeen → PlaceTable
 page_table files anon = table_of (map file_blocks files.files) (length anon.counts) (is_unpushed files anon)
 
+-- Where each page of the world lives.
 abbrev pub world_table : World → PlaceTable
 world_table w = page_table w.files w.anon
 

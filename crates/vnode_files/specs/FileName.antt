@@ -9,6 +9,7 @@ use Rattle.vnode_files.specs.declared.name.FileName.TheInside.{Inside}
 abbrev pub name_bytes : Inside → List ℕ
 name_bytes n = take n.len n.bytes
 
+-- an array of 16 bytes of which at least one counts, and all behind those that count are zeros
 pub record IsName (n : Inside) : Type 0 where
   pub whole : length n.bytes ≡ 16
   pub some : 1 ≤ n.len
@@ -19,6 +20,7 @@ pub record IsName (n : Inside) : Type 0 where
 abbrev pub name_fields : List ℕ → Inside
 name_fields xs = record { len = length xs; bytes = xs ++ replicate (16 - length xs) 0 }
 
+-- the fields made of the bytes that count in a name are that name again
 pub name_fields-name_bytes : (n : Inside) → IsName n → name_fields (name_bytes n) ≡ n
 name_fields-name_bytes n h =
     let len : length (take n.len n.bytes) ≡ n.len = omega (arith, length-take n.len n.bytes, h.whole, h.short) in

@@ -12,6 +12,7 @@ pub record FilesSeen : Type 0 where
   pub disks : map.FinMap nat_cmp ℕ
   pub files : List VnodeSeen
 
+-- Files as they begin: no disk was set, and there is no file.
 abbrev pub no_files : FilesSeen
 no_files = record { disks = map.empty; files = [] }
 
@@ -27,6 +28,7 @@ with_vnode s file v = record s { files = slice_set s.files file v }
 abbrev pub with_next_file : FilesSeen → VnodeSeen → FilesSeen
 with_next_file s v = record s { files = s.files ++ v ∷ [] }
 
+-- The files where a disk was set to so many blocks.
 abbrev pub with_disk : FilesSeen → ℕ → ℕ → FilesSeen
 with_disk s disk blocks = record s { disks = map.insert s.disks disk blocks }
 
@@ -44,7 +46,7 @@ growth_of s file pages =
     let info = (vnode_at s file).info in
     growth (block_count s.disks info.disk) (extents_on info.disk (remove s.files file)) info.extents pages
 
--- The files after such a growth.
+-- The files once a file grew onto these extents; as they were where there are none.
 abbrev pub with_growth : FilesSeen → ℕ → Option (List Extent) → FilesSeen
 with_growth s file None = s
 with_growth s file (Some extents) = with_vnode s file (with_extents (vnode_at s file) extents)

@@ -48,13 +48,15 @@ pub record HasPlaceBeside (s : FilesSeen) (info : FileInfo) : Type 0 where
   pub none_meet : NoneMeet (extents_on info.disk s.files ++ info.extents)
   pub few : length (extents_on info.disk s.files) + length info.extents ≤ MOST_EXTENTS
 
--- The pages that a file keeps, its disk, and the block of a page.
+-- How many pages a file keeps.
 abbrev pub pages_kept : FilesSeen → ℕ → ℕ
 pages_kept s file = page_count (vnode_at s file).info.extents
 
+-- The number of the disk on which a file lies.
 abbrev pub disk_of_file : FilesSeen → ℕ → ℕ
 disk_of_file s file = (vnode_at s file).info.disk
 
+-- The block of a page of a file on the file's disk.
 abbrev pub block_of_page : FilesSeen → ℕ → ℕ → ℕ
 block_of_page s file page = block_at (vnode_at s file).info.extents page
 
@@ -100,6 +102,7 @@ pub record GrowthGives (blocks : ℕ) (others own : List Extent) (pages : ℕ) (
   pub none_meet : NoneMeet (others ++ own) → NoneMeet (others ++ next)
   pub few : length others + length own ≤ MOST_EXTENTS → length others + length next ≤ MOST_EXTENTS
 
+-- The law of growth: the extents that a growth answers are as GrowthGives says.
 abbrev pub GrowthLaw : Type 0
 GrowthLaw =
     (blocks : ℕ) (others own : List Extent) (pages : ℕ) (next : List Extent)

@@ -6,10 +6,11 @@ use Rattle.vnode_files.specs.declared.extent.TheConstants.{MOST_EXTENTS}
 use Rattle.vnode_files.specs.Grow.{extent_end, can_lengthen, least_free, with_next_block}
 use Rattle.vnode_files.specs.Files.{FilesSeen, vnode_at, block_count, extents_on}
 
--- The extents of a file, and those of the other files of its disk.
+-- The extents of a file.
 abbrev pub own_extents : FilesSeen → ℕ → List Extent
 own_extents s file = (vnode_at s file).info.extents
 
+-- The extents of the other files of a file's disk.
 abbrev pub other_extents : FilesSeen → ℕ → List Extent
 other_extents s file = extents_on (vnode_at s file).info.disk (remove s.files file)
 

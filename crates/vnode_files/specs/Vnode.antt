@@ -41,9 +41,11 @@ no_vnode = record { info = record { name = []; disk = 0; extents = []; length = 
 abbrev pub is_blank : VnodeSeen → ℕ → Bool
 is_blank v page = slice_index_or v.blanks page false
 
+-- A file with one of its pages marked as blank, or as written.
 abbrev pub with_blank : VnodeSeen → ℕ → Bool → VnodeSeen
 with_blank v page blank = record v { blanks = slice_set v.blanks page blank }
 
+-- A file with another length in bytes; its extents and blank pages stay.
 abbrev pub with_length : VnodeSeen → ℕ → VnodeSeen
 with_length v bytes = record v { info = record v.info { length = bytes } }
 

@@ -1,5 +1,5 @@
 -- A volume that was made of its disks, or not.
-use Rattle.std.specs.Prelude.{◌≡◌, Bool, List, MatchOption, None, Option, Some, option_map, IfErr, IfOk, Ok, Err, Result, ℕ}
+use Rattle.std.specs.Prelude.{◌≡◌, Bool, List, MatchOption, None, Option, Some, option_map, IfErr, IfOk, IsFalse, Ok, Err, Result, ℕ}
 use Rattle.std.proofs.Common.{◌∙◌, subst, sym}
 use Rattle.block_device.specs.DiskSeen.{DiskSeen}
 use Rattle.block_device.specs.RackSeen.{IsAttached, RackSeen, spec_number}
@@ -21,8 +21,8 @@ module _ {D P E : Type 0} (seen : D → DiskSeen) (pairs : D → Option D → Bo
 
 -- A disk that was attached after another.
 pub disk_behind : {D : Type 0} (seen : D → DiskSeen) (holds now : Spec → Option (List (List ℕ))) (s : Spec) (d : NumberedDisk D) → now s ≡ holds s → d.number ≡ spec_number s
-    → IsAttached s (now s) (seen d.disk) → (seen d.disk).kind.members ≡ 1 → (seen d.disk).faults ≡ 0 → IsDiskFor seen holds s d
-disk_behind seen holds now s d same number attached one none = record { number = number; attached = subst (λ h. IsAttached s h (seen d.disk)) same attached; single = one; unfailed = none }
+    → IsAttached s (now s) (seen d.disk) → (seen d.disk).kind.members ≡ 1 → IsFalse (seen d.disk).kind.mirror → (seen d.disk).faults ≡ 0 → IsDiskFor seen holds s d
+disk_behind seen holds now s d same number attached one once none = record { number = number; attached = subst (λ h. IsAttached s h (seen d.disk)) same attached; single = one; once = once; unfailed = none }
 
 -- Two disks whose sizes serve, and no memory to join them.
 pub unpaired : {D P : Type 0} (seen : D → DiskSeen) (old new : RackSeen) (s t : Spec) (mirror : Bool) (first second : NumberedDisk D) → IsDiskFor seen old.holds s first → IsDiskFor seen old.holds t second

@@ -1,5 +1,5 @@
 -- The disks of a volume, and what attaching them does. Public clauses cite this.
-use Rattle.std.specs.Prelude.{ℕ, ◌≡◌, ◌≢◌, ◌+◌, Bool, false, ◌&&◌, ◌==◌, nat_le, is_some, List, Option, Some, None, IfSome, IsSome, IsSomeAnd, MatchOption, option_map, if◌then◌else◌}
+use Rattle.std.specs.Prelude.{ℕ, ◌≡◌, ◌≢◌, ◌+◌, Bool, false, IsFalse, ◌&&◌, ◌==◌, nat_le, is_some, List, Option, Some, None, IfSome, IsSome, IsSomeAnd, MatchOption, option_map, if◌then◌else◌}
 use Rattle.std.specs.Option.{ForSome}
 use Rattle.block_device.specs.DiskSeen.{DiskSeen}
 use Rattle.block_device.specs.Opening.{IsRackFault}
@@ -14,20 +14,22 @@ use Rattle.volume_disks.specs.declared.stops.VolumeStop.TheVariants as stop
 use Rattle.volume_disks.specs.declared.volume_spec.VolumeSpec.{VolumeSpec}
 use Rattle.volume_disks.specs.declared.volume_spec.VolumeSpec.TheVariants.{Plain, Joined}
 
--- The disks of a volume: the first, which gives it its number, and the second where there is one; and whether it mirrors them.
+-- The first disk of a volume, which gives it its number.
 abbrev pub first_spec : VolumeSpec → Spec
 first_spec (Plain spec) = spec
 first_spec (Joined first second mirror) = first
 
+-- The second disk of a volume, where there is one.
 abbrev pub second_spec : VolumeSpec → Option Spec
 second_spec (Plain spec) = None
 second_spec (Joined first second mirror) = Some second
 
+-- The volume mirrors its two disks.
 abbrev pub is_mirror : VolumeSpec → Bool
 is_mirror (Plain spec) = false
 is_mirror (Joined first second mirror) = mirror
 
--- The numbers of its disks differ.
+-- The numbers of a volume's disks differ.
 abbrev pub HasTwoNumbers : VolumeSpec → Type 0
 HasTwoNumbers v = ForSome (second_spec v) (λ s. spec_number s ≢ spec_number (first_spec v))
 
@@ -42,14 +44,16 @@ size_fault first second =
     (if is_volume_size second.1 then (if first.1 == second.1 then None else Some stop.Unequal) else Some (stop.Size second.0))
     else Some (stop.Size first.0)
 
+-- A numbered disk as its number and the number of its blocks.
 abbrev pub sized : {D : Type 0} → (D → DiskSeen) → NumberedDisk D → ℕ × ℕ
 sized seen d = (d.number, (seen d.disk).size)
 
--- A disk that was attached for this spec: one disk, which has counted no fault.
+-- A disk that was attached for this spec: one disk, which has each block once and has counted no fault.
 pub record IsDiskFor {D : Type 0} (seen : D → DiskSeen) (holds : Spec → Option (List (List ℕ))) (s : Spec) (d : NumberedDisk D) : Type 0 where
   pub number : d.number ≡ spec_number s
   pub attached : IsAttached s (holds s) (seen d.disk)
   pub single : (seen d.disk).kind.members ≡ 1
+  pub once : IsFalse (seen d.disk).kind.mirror
   pub unfailed : (seen d.disk).faults ≡ 0
 
 -- THE VOLUME WAS ATTACHED: it stands for the disk of its spec, or for those of its two specs, whose sizes are right and equal; and it has the number of the first.

@@ -33,7 +33,7 @@ use Rattle.stored_files.specs.Closed.{stored_bytes}
 use Rattle.volume_files.specs.Placing.{KeepThere, Distinct, PlacesFiles, RemainThere, WroteEach, attached_numbers, found_files}
 use Rattle.volume_files.specs.Placing.{line_files, sizes_by_number, with_file_pages}
 use Rattle.stored_files.specs.Written.{disk_sizes, HaveFirstBlocks}
-use Rattle.volume_files.proofs.DiskCounts.{counts-kinds, counts-mounted, kinds-same}
+use Rattle.volume_files.proofs.DiskCounts.{kinds-mounted, kinds-same, kinds-still}
 use Rattle.volume_files.proofs.FoundLemmas.{AllBlocks, found-good, found-stored, own-disk}
 use Rattle.volume_files.proofs.GivenFiles.{comes-to}
 use Rattle.volume_files.proofs.HandLemmas.{SameDisks, same-disks, same-numbers, spec-sizes, plan-numbers, mounted-numbers, same_Some}
@@ -140,8 +140,8 @@ pub hands-all : {D : Type 0} (seen : D → DiskSeen) (plan : PlanSeen) (holds : 
     → HandsAll plan (bare_disks (map (numbered_seen seen) new)) swap
 hands-all seen plan holds old new ts swap m serves remain = record {
   each = spec-sizes seen holds (setup_volumes plan.setup) old new ts m (same-disks seen old new remain);
-  counts = counts-kinds (map (numbered_seen seen) new) (map (numbered_seen seen) old) (kinds-same seen old new (same-disks seen old new remain))
-      ∙ counts-mounted holds (setup_volumes plan.setup) (map (numbered_seen seen) old) ts m;
+  kinds = kinds-still (map (numbered_seen seen) new) (map (numbered_seen seen) old) (kinds-same seen old new (same-disks seen old new remain))
+      ∙ kinds-mounted holds (setup_volumes plan.setup) (map (numbered_seen seen) old) ts m;
   first = serves;
 }
 

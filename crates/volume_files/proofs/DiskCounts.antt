@@ -1,16 +1,16 @@
 -- How many disks there are, those that a disk stands for counted each.
-use Rattle.std.specs.Prelude.{ℕ, ◌≡◌, ◌+◌, List, [], ◌∷◌, ◌++◌, length, map, slice_get, Option, Some, option_map}
+use Rattle.std.specs.Prelude.{ℕ, ◌≡◌, ◌+◌, Bool, List, [], ◌∷◌, ◌++◌, length, map, slice_get, Option, Some, option_map}
 use Rattle.std.proofs.Common.{ap, sym, ◌∙◌, refl, suc, arith}
 use Rattle.std.proofs.lemmas.List.Sums.{sum_by-cons}
 use Rattle.block_device.specs.DiskSeen.{DiskKind, DiskSeen}
 use Rattle.block_device.specs.declared.numbered.NumberedDisk.{NumberedDisk}
 use Rattle.block_device.specs.declared.rack.Spec.{Spec}
-use Rattle.volume_disks.specs.Volumes.{spec_count}
 use Rattle.volume_disks.specs.declared.volume_spec.VolumeSpec.{VolumeSpec}
 use Rattle.volume_format.specs.Table.{TableSeen}
 use Rattle.volume_files.specs.Attached.{AreMounted, bare_disks}
 use Rattle.stored_files.specs.Written.{numbered_seen}
-use Rattle.volume_files.specs.Handed.{disk_counts, kinds_of, member_count, members_of, swap_members}
+use Rattle.volume_files.specs.Opened.{disk_kind, spec_kind}
+use Rattle.volume_files.specs.Handed.{kinds_of, member_count, members_of, swap_members}
 use Rattle.volume_files.specs.Placing.{RemainThere}
 use Rattle.stored_files.specs.Written.{AreOnlyRead, WriteTables}
 use Rattle.volume_files.proofs.HandLemmas.{SameDisks, same-disks}
@@ -56,23 +56,23 @@ kinds-written old new w = same-maps kind_of kind_of new old w.count (λ i e d no
 pub kinds-read : (old new : List (ℕ × DiskSeen)) → AreOnlyRead old new → kinds_of new ≡ kinds_of old
 kinds-read old new r = same-maps kind_of kind_of new old r.count (λ i e d now was. (r.each i d e was now).kind)
 
--- how many disks each of them is, by their kinds
-counts-of : (ds : List (ℕ × DiskSeen)) → disk_counts (bare_disks ds) ≡ map (λ (k : DiskKind). k.members) (kinds_of ds)
-counts-of [] = refl
-counts-of (d ∷ ds) = ap (λ l. d.1.kind.members ∷ l) (counts-of ds)
+-- what is told of each of them by its kind
+kinds-told : (ds : List (ℕ × DiskSeen)) → map disk_kind (bare_disks ds) ≡ map (λ (k : DiskKind). (k.members, k.mirror)) (kinds_of ds)
+kinds-told [] = refl
+kinds-told (d ∷ ds) = ap (λ l. disk_kind d.1 ∷ l) (kinds-told ds)
 
-pub counts-kinds : (ds es : List (ℕ × DiskSeen)) → kinds_of ds ≡ kinds_of es → disk_counts (bare_disks ds) ≡ disk_counts (bare_disks es)
-counts-kinds ds es same = counts-of ds ∙ (ap (map (λ (k : DiskKind). k.members)) same ∙ sym (counts-of es))
+pub kinds-still : (ds es : List (ℕ × DiskSeen)) → kinds_of ds ≡ kinds_of es → map disk_kind (bare_disks ds) ≡ map disk_kind (bare_disks es)
+kinds-still ds es same = kinds-told ds ∙ (ap (map (λ (k : DiskKind). (k.members, k.mirror))) same ∙ sym (kinds-told es))
 
-pub counts-mounted : (holds : Spec → Option (List (List ℕ))) (specs : List VolumeSpec) (ds : List (ℕ × DiskSeen)) (ts : List TableSeen) → AreMounted holds specs ds ts
-    → disk_counts (bare_disks ds) ≡ map spec_count specs
-counts-mounted holds [] [] [] m = refl
-counts-mounted holds [] [] (t ∷ ts) m = absurd m
-counts-mounted holds [] (d ∷ ds) ts m = absurd m
-counts-mounted holds (s ∷ specs) [] ts m = absurd m
-counts-mounted holds (s ∷ specs) (d ∷ ds) [] m = absurd m
-counts-mounted holds (s ∷ specs) (d ∷ ds) (t ∷ ts) m =
-    ap (λ (n : ℕ). n ∷ disk_counts (bare_disks ds)) m.0.attached.1 ∙ ap (λ l. spec_count s ∷ l) (counts-mounted holds specs ds ts m.1)
+pub kinds-mounted : (holds : Spec → Option (List (List ℕ))) (specs : List VolumeSpec) (ds : List (ℕ × DiskSeen)) (ts : List TableSeen) → AreMounted holds specs ds ts
+    → map disk_kind (bare_disks ds) ≡ map spec_kind specs
+kinds-mounted holds [] [] [] m = refl
+kinds-mounted holds [] [] (t ∷ ts) m = absurd m
+kinds-mounted holds [] (d ∷ ds) ts m = absurd m
+kinds-mounted holds (s ∷ specs) [] ts m = absurd m
+kinds-mounted holds (s ∷ specs) (d ∷ ds) [] m = absurd m
+kinds-mounted holds (s ∷ specs) (d ∷ ds) (t ∷ ts) m =
+    ap (λ (k : ℕ × Bool). k ∷ map disk_kind (bare_disks ds)) m.0.attached.1 ∙ ap (λ l. spec_kind s ∷ l) (kinds-mounted holds specs ds ts m.1)
 
 -- disks on which files were written
 module _ {D : Type 0} (seen : D → DiskSeen) where

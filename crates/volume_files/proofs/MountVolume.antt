@@ -48,7 +48,7 @@ pushed_as f xs ys x d is same = ap (map f) is ∙ (map-append f xs (x ∷ []) �
 
 module _ {D : Type 0} (seen : D → DiskSeen) (has : (d : D) → HasBlocks (seen d).content (seen d).size) (old new : RackSeen) (front : List (ℕ × DiskSeen)) where
   given_one : (s : Spec) (d : NumberedDisk D) → IsDiskFor seen old.holds s d → IsGiven old.holds (Plain s) (numbered_seen seen d)
-  given_one s d one = record { number = one.number; attached = (one.attached, one.single) }
+  given_one s d one = record { number = one.number; attached = (one.attached, λ i. (one.single i, one.once i)) }
 
   none_more : (front ++ []) ++ [] ≡ front
   none_more = append-nil (front ++ []) ∙ append-nil front
@@ -244,7 +244,7 @@ blocks_read holds (Joined first second mirror) d e r j = record {
 }
 
 volume_read : (holds : Holds) (v : VolumeSpec) (d e : DiskSeen) → OnlyReads d e → IsVolumeAttached holds v d → IsVolumeAttached holds v e
-volume_read holds v d e r a = (blocks_read holds v d e r a.0, ap (λ (k : DiskKind). k.members) r.kind ∙ a.1)
+volume_read holds v d e r a = (blocks_read holds v d e r a.0, ap (λ (k : DiskKind). (k.members, k.mirror)) r.kind ∙ a.1)
 
 module _ (holds : Holds) (v : VolumeSpec) (front disks : List (ℕ × DiskSeen)) (d : DiskSeen) (e : ℕ × DiskSeen) (given : IsVolumeAttached holds v d) (reads : OnlyReads d e.1) (number : e.0 ≡ volume_number v)
     (behind : disks ≡ front ++ e ∷ []) where

@@ -15,7 +15,7 @@ use Rattle.joined_disk.specs.declared.joined.JoinedDisk.TheVariants as made
 use Rattle.joined_disk.specs.disk_mirror.MirrorBlocks.{length-mirror_blocks, mirror_block-fresh}
 use Rattle.joined_disk.specs.disk_mirror.MirrorSeen.{mirror_block, mirror_blocks, mirror_disk, mirror_seen}
 use Rattle.joined_disk.specs.disk_stripe.StripeSeen.{stripe_seen, stripe_seen_by}
-use Rattle.volume_disks.specs.Volumes.{IsDiskFor, IsVolume, size_fault, sized, spec_count}
+use Rattle.volume_disks.specs.Volumes.{IsDiskFor, IsVolume, is_mirror, size_fault, sized, spec_count}
 use Rattle.volume_disks.specs.declared.volume_spec.VolumeSpec.{VolumeSpec}
 use Rattle.volume_disks.specs.declared.volume_spec.VolumeSpec.TheVariants.{Plain, Joined}
 use Rattle.volume_files.specs.Opened.{AreJoined, HasVolumeBlocks, IsVolumeAttached}
@@ -121,9 +121,18 @@ volume_members {D} {disk} seen holds (Joined first second mirror) volume w = at 
     at false stands = ap (λ (x : DiskSeen). x.kind.members) (stripe_of seen w.first.disk w.two.0.disk volume.disk stands) ∙ (let a = w.one.single in let b = w.two.2.single in omega (arith, a, b))
     at true stands = ap (λ (x : DiskSeen). x.kind.members) (mirror_of seen w.first.disk w.two.0.disk volume.disk stands) ∙ (let a = w.one.single in let b = w.two.2.single in omega (arith, a, b))
 
+volume_mirror : {D : Type 0} {disk : _} (seen : D → DiskSeen) (holds : Spec → Option (List (List ℕ))) (v : VolumeSpec) (volume : NumberedDisk (JoinedDisk D disk))
+    → IsVolume seen (StandsFor seen) holds v volume → (joined_seen seen volume.disk).kind.mirror ≡ is_mirror v
+volume_mirror seen holds (Plain s) volume w = ap (λ (x : DiskSeen). x.kind.mirror) (plain_stands seen holds s volume w) ∙ w.one.once
+volume_mirror {D} {disk} seen holds (Joined first second mirror) volume w = at mirror (both_stand seen holds first second mirror volume w)
+  where
+    at : (m : Bool) → StandsFor seen w.first.disk (Some w.two.0.disk) m volume.disk → (joined_seen seen volume.disk).kind.mirror ≡ m
+    at false stands = ap (λ (x : DiskSeen). x.kind.mirror) (stripe_of seen w.first.disk w.two.0.disk volume.disk stands)
+    at true stands = ap (λ (x : DiskSeen). x.kind.mirror) (mirror_of seen w.first.disk w.two.0.disk volume.disk stands)
+
 pub volume_attached : {D : Type 0} {disk : _} (seen : D → DiskSeen) (has : (d : D) → HasBlocks (seen d).content (seen d).size) (holds : Spec → Option (List (List ℕ))) (v : VolumeSpec) (volume : NumberedDisk (JoinedDisk D disk))
     → IsVolume seen (StandsFor seen) holds v volume → IsVolumeAttached holds v (joined_seen seen volume.disk)
-volume_attached seen has holds v volume w = (volume_blocks seen has holds v volume w, volume_members seen holds v volume w)
+volume_attached seen has holds v volume w = (volume_blocks seen has holds v volume w, λ i. (volume_members seen holds v volume w i, volume_mirror seen holds v volume w i))
 
 none_both : (a b : ℕ) → a ≡ 0 → b ≡ 0 → count_sum a b ≡ 0
 none_both a b one two = ap (λ (n : ℕ). count_sum n b) one ∙ ap (λ (n : ℕ). count_sum 0 n) two

@@ -32,6 +32,7 @@ pub record AttachedSeen : Type 0 where
   pub tables : List TableSeen
   pub swap : Option DiskSeen
 
+-- The disks, tables and swap disk of what was attached, as they are seen.
 abbrev pub attached_seen : {D : Type 0} → (D → DiskSeen) → Attached D → AttachedSeen
 attached_seen seen a = record {
   disks = map (numbered_seen seen) a.disks.items;
@@ -60,7 +61,8 @@ pub record IsMounted (holds : Spec → Option (List (List ℕ))) (s : VolumeSpec
   pub volume : IsVolumeTable t
   pub read : IfSome d.1.content (λ blocks. table_on blocks ≡ Ok t)
 
--- So was each disk of these specs, in their order.
+-- The volume of each of these specs was attached, in their order, and each table is the one that
+-- its block 0 says, where that tells.
 abbrev pub AreMounted : (Spec → Option (List (List ℕ))) → List VolumeSpec → List (ℕ × DiskSeen) → List TableSeen → Type 0
 AreMounted holds [] [] [] = Unit {0}
 AreMounted holds (s ∷ specs) (d ∷ disks) (t ∷ tables) = IsMounted holds s d t × AreMounted holds specs disks tables
@@ -81,13 +83,15 @@ pub record StopsWriting (plan : PlanSeen) (holds : Spec → Option (List (List �
   pub written : AreWrittenAt plan holds (line_files_of given.found files) disks swap
   pub opened : HaveTold disks swap → opened_files plan holds ≡ Ok files
 
--- What is handed back where the files weren't opened: a rule is broken, a disk or the rack failed, or memory lacked; the disks so far are handed back.
+-- Why the files weren't opened: a rule is broken, a disk or the rack failed, or memory lacked; the
+-- disks so far are handed back.
 abbrev pub StopCause : PlanSeen → (Spec → Option (List (List ℕ))) → ℕ → ℕ → List DiskSeen → Option DiskSeen → OpenStop → Type 0
 StopCause plan holds rack_old rack_new disks swap (halt.Refused r) = HasRefusalCause plan holds disks swap r
 StopCause plan holds rack_old rack_new disks swap (halt.Failed f) =
     (HasOpeningCause plan disks swap rack_old rack_new f × StopsAttaching plan holds disks swap f) ⊎ StopsWriting plan holds disks swap f
 StopCause plan holds rack_old rack_new disks swap halt.Memory = HandsFront plan holds disks swap
 
+-- What is handed back where the files weren't opened, as it is seen, agrees with why they weren't.
 abbrev pub StopsEarly : {D : Type 0} → PlanSeen → (Spec → Option (List (List ℕ))) → ℕ → ℕ → (D → DiskSeen) → HandedBack D → Type 0
 StopsEarly plan holds rack_old rack_new seen s = StopCause plan holds rack_old rack_new (map seen s.disks.items) (option_map seen s.swap) s.why
 
@@ -100,7 +104,8 @@ pub record HasItsBytes (f : OpenedFile) : Type 0 where
 abbrev pub FileDisksTell : List FileInfo → List (ℕ × DiskSeen) → Type 0
 FileDisksTell infos disks = (i k : ℕ) (disk : ℕ × DiskSeen) → slice_get disks i ≡ Some disk → k < length infos → (info_at infos k).disk ≡ disk.0 → IsSome disk.1.content
 
--- A block of the disk of this number has a page that the bytes of one of these files fill: the last one of a file with zeros behind them.
+-- A block of the disk of this number has a page that one of these files' bytes fill: the last page
+-- with zeros behind them.
 pub record HasFilledPage (files : List OpenedFile) (number : ℕ) (content : Option (List (List ℕ))) (block : ℕ) : Type 0 where
   pub k : ℕ
   pub file : OpenedFile
@@ -111,12 +116,14 @@ pub record HasFilledPage (files : List OpenedFile) (number : ℕ) (content : Opt
   pub in_block : block ≡ front_block file.info.extents + page
   pub has : block_told content block ≡ Some (slice_index_or (filled_pages file.bytes) page [])
 
--- A disk tells where it told; and each of its blocks is as it was, or has such a page.
+-- A disk tells where it told, and each of its blocks is as it was or has a page of one of these
+-- files.
 pub record IsFilledBy (files : List OpenedFile) (number : ℕ) (was now : DiskSeen) : Type 0 where
   pub tells : is_some now.content ≡ is_some was.content
   pub each : (block : ℕ) → (block_told now.content block ≡ block_told was.content block) ⊎ HasFilledPage files number now.content block
 
--- So is each of these disks, from what the rack gave.
+-- Each of these disks tells where it was told when attached, and its blocks are as then, or have
+-- pages of these files.
 abbrev pub AreFilledBy : PlanSeen → (Spec → Option (List (List ℕ))) → List OpenedFile → List DiskSeen → Type 0
 AreFilledBy plan holds files disks =
     (i : ℕ) (s : VolumeSpec) (d : DiskSeen) → slice_get (volume_specs plan) i ≡ Some s → slice_get disks i ≡ Some d

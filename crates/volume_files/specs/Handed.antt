@@ -19,8 +19,8 @@ use Rattle.volume_files.specs.declared.stops.Refusal.{Refusal}
 use Rattle.volume_files.specs.declared.stops.Refusal.TheVariants as refusal
 use Rattle.volume_disks.specs.declared.volume_spec.VolumeSpec.{VolumeSpec}
 use Rattle.volume_disks.specs.declared.volume_spec.VolumeSpec.TheVariants.{Plain, Joined}
-use Rattle.volume_files.specs.Opened.{ComesTo, IsVolumeAttached, OpenedFile, joined_size, mounted_files, volume_number, volume_specs, opened_files, table_of_read, size_refusal}
-use Rattle.volume_disks.specs.Volumes.{second_spec, size_fault, spec_count}
+use Rattle.volume_files.specs.Opened.{ComesTo, IsVolumeAttached, OpenedFile, disk_kind, joined_size, mounted_files, volume_number, volume_specs, opened_files, spec_kind, table_of_read, size_refusal}
+use Rattle.volume_disks.specs.Volumes.{second_spec, size_fault}
 
 -- Each disk that came back tells its blocks.
 pub record HaveTold (disks : List DiskSeen) (swap : Option DiskSeen) : Type 0 where
@@ -63,10 +63,6 @@ handed_specs plan whole apart = take whole (volume_specs plan) ++ take apart (di
 abbrev pub kinds_of : List (ℕ × DiskSeen) → List DiskKind
 kinds_of disks = map (λ (d : ℕ × DiskSeen). d.1.kind) disks
 
--- How many disks each of these is.
-abbrev pub disk_counts : List DiskSeen → List ℕ
-disk_counts disks = map (λ (d : DiskSeen). d.kind.members) disks
-
 -- How many disks these are: of a disk that stands for several, each counts.
 abbrev pub members_of : List DiskSeen → ℕ
 members_of disks = sum_by (λ (d : DiskSeen). d.kind.members) disks
@@ -105,10 +101,10 @@ pub record HandsFront (plan : PlanSeen) (holds : Spec → Option (List (List ℕ
   pub first : IfSome swap (λ d. (0 < (amounts_of plan.setup).slots) × (d.size ≡ (amounts_of plan.setup).slots) × (d.kind.members ≡ 1))
   pub before : 0 < length disks → IsSwapFor (amounts_of plan.setup).slots swap
 
--- All of the plan's volumes are handed back, in rising number, each as many disks as its spec says, and the swap disk where there are slots.
+-- All of the plan's volumes are handed back, in rising number, each as many disks as its spec says, mirrored where it says so; and the swap disk where there are slots.
 pub record HandsAll (plan : PlanSeen) (disks : List DiskSeen) (swap : Option DiskSeen) : Type 0 where
   pub each : HaveSpecSizes (volume_specs plan) disks
-  pub counts : disk_counts disks ≡ map spec_count (volume_specs plan)
+  pub kinds : map disk_kind disks ≡ map spec_kind (volume_specs plan)
   pub first : IsSwapFor (amounts_of plan.setup).slots swap
 
 -- The swap disk where there are slots, the volumes whose numbers pass a test, which are a front of the plan's, and so many disks of the next one; and nothing

@@ -35,7 +35,7 @@ Holds = Spec → Option (List (List ℕ))
 abbrev pub specs_below : List SetupLine → ℕ → List VolumeSpec
 specs_below setup number = filter_map (volume_numbered setup) (range_with_len 0 number)
 
--- What is held for the disks of files is the same.
+-- Two racks tell the same of each disk of files, which is numbered below 8.
 abbrev pub HoldSame : Holds → Holds → Type 0
 HoldSame holds others = (s : Spec) → spec_number s < 8 → holds s ≡ others s
 
@@ -52,7 +52,8 @@ pub record SaysTableRead (d : DiskSeen) (t : TableSeen) : Type 0 where
   pub volume : IsVolumeTable t
   pub read : IfSome d.content (λ blocks. table_on blocks ≡ Ok t)
 
--- Why no table was read: its size or its block 0 breaks a rule of volumes, its size serves and the disk counted a fault of the transfer, or memory lacked.
+-- Why a disk's table wasn't read: its size or block 0 breaks a rule, its size serves and the
+-- transfer's fault was counted, or memory lacked.
 abbrev pub UnreadCause : ℕ × DiskSeen → OpenStop → Type 0
 UnreadCause d (halt.Refused (refusal.Volume number rule)) = (number ≡ d.0) × IfSome d.1.content (λ blocks. table_on blocks ≡ Err rule) × HasBadTable d.1.size rule
 UnreadCause d (halt.Failed f) = HasLastFault 0 d (open_fault_counts f) × (2 ≤ d.1.size) × (d.1.size ≤ 16384)
@@ -102,12 +103,14 @@ pub record HaltsFirst (holds : Holds) (s : VolumeSpec) (old new : ℕ) (front di
   pub behind : disks ≡ front ++ disk ∷ []
   pub cause : UngivenCause (spec_number second) old new how
 
--- Both were attached, and weren't joined: their sizes don't serve, or they do and memory lacked.
+-- Why two attached disks weren't joined: their sizes don't serve, or they do and memory lacked.
 abbrev pub UnfitCause : ℕ × DiskSeen → ℕ × DiskSeen → OpenStop → Type 0
 UnfitCause a b (halt.Refused r) = option_and_then size_refusal (size_fault (a.0, a.1.size) (b.0, b.1.size)) ≡ Some r
 UnfitCause a b (halt.Failed f) = ⊥
 UnfitCause a b halt.Memory = size_fault (a.0, a.1.size) (b.0, b.1.size) ≡ None
 
+-- Both disks of a volume of two were attached and weren't joined; they stand behind the disks
+-- before them.
 pub record HaltsUnfit (holds : Holds) (s : VolumeSpec) (front disks : List (ℕ × DiskSeen)) (how : OpenStop) : Type 0 where
   pub first : Spec
   pub second : Spec
@@ -122,7 +125,8 @@ pub record HaltsUnfit (holds : Holds) (s : VolumeSpec) (front disks : List (ℕ 
   pub behind : disks ≡ front ++ a ∷ b ∷ []
   pub cause : UnfitCause a b how
 
--- One of these.
+-- The attaching of a volume stopped: bare, unread, after its first disk, or with two disks that
+-- don't fit.
 abbrev pub HaltsSpec : Holds → VolumeSpec → ℕ → ℕ → List (ℕ × DiskSeen) → List (ℕ × DiskSeen) → OpenStop → Type 0
 HaltsSpec holds s old new front disks how =
     HaltsBare (volume_number s) old new front disks how ⊎ HaltsUnread holds s front disks how ⊎ HaltsFirst holds s old new front disks how ⊎ HaltsUnfit holds s front disks how
@@ -137,6 +141,8 @@ pub record HaltsUnasked (front disks : List (ℕ × DiskSeen)) (how : OpenStop) 
   pub same : disks ≡ front
   pub memory : how ≡ halt.Memory
 
+-- The attaching of the volume of a number stopped: for want of memory before the rack was asked for
+-- a disk, or at its spec.
 abbrev pub HaltsNumber : List SetupLine → ℕ → Holds → ℕ → ℕ → List (ℕ × DiskSeen) → List (ℕ × DiskSeen) → OpenStop → Type 0
 HaltsNumber setup number holds old new front disks how =
     HaltsUnasked front disks how ⊎ ((s : VolumeSpec) × (volume_numbered setup number ≡ Some s) × HaltsSpec holds s old new front disks how)

@@ -29,7 +29,7 @@ use Rattle.vm_report.specs.vm_script.PlanSeen.{PlanSeen}
 use Rattle.vm_report.specs.vm_script.Processes.{kernel_parents}
 use Rattle.vm_report.specs.vm_script.Rules.{amounts_of, gives_disk, is_from_to}
 use Rattle.joined_disk.specs.disk_stripe.StripeSeen.{stripe_blocks}
-use Rattle.volume_disks.specs.Volumes.{first_spec, size_fault, spec_count}
+use Rattle.volume_disks.specs.Volumes.{first_spec, is_mirror, size_fault, spec_count}
 use Rattle.volume_disks.specs.declared.stops.VolumeStop.{VolumeStop}
 use Rattle.volume_disks.specs.declared.stops.VolumeStop.TheVariants as unfit
 use Rattle.volume_disks.specs.declared.volume_spec.VolumeSpec.{VolumeSpec}
@@ -66,6 +66,7 @@ joined_by setup number = option_and_then (λ (l : SetupLine). joined_to number l
 abbrev pub second_numbered : List SetupLine → ℕ → Option (Spec × Bool)
 second_numbered setup number = option_and_then (λ (j : ℕ × Bool). option_map (λ (s : Spec). (s, j.1)) (disk_numbered setup j.0)) (joined_by setup number)
 
+-- The volume of a disk alone, or of it and the second one, if one is joined to it.
 abbrev pub with_second : Option (Spec × Bool) → Spec → VolumeSpec
 with_second None first = Plain first
 with_second (Some second) first = Joined first second.0 second.1
@@ -75,6 +76,7 @@ abbrev pub volume_numbered : List SetupLine → ℕ → Option VolumeSpec
 volume_numbered setup number =
     if list_any (λ (l : SetupLine). is_second number l.act) setup then None else option_map (with_second (second_numbered setup number)) (disk_numbered setup number)
 
+-- The number of a volume: that of its disk, or of its first disk.
 abbrev pub volume_number : VolumeSpec → ℕ
 volume_number v = spec_number (first_spec v)
 
@@ -101,16 +103,18 @@ volume_blocks holds (Joined first second true) = blocks_held holds first
 abbrev pub volumes_held : (Spec → Option (List (List ℕ))) → List VolumeSpec → List (ℕ × List (List ℕ))
 volumes_held holds specs = map (λ v. (volume_number v, volume_blocks holds v)) specs
 
--- How many blocks two disks have as one, and what it has in them.
+-- How many blocks two disks of this size have as one: both together, or, of a mirror, those of one.
 abbrev pub joined_size : Bool → ℕ → ℕ
 joined_size false size = size + size
 joined_size true size = size
 
+-- The blocks of two disks as one, where both tell: in turn, or, of a mirror, those of the first.
 abbrev pub joined_content : Bool → Option (List (List ℕ)) → Option (List (List ℕ)) → Option (List (List ℕ))
 joined_content false first second = content_of_both stripe_blocks first second
 joined_content true first second = content_of_both (λ blocks others. blocks) first second
 
--- A volume was attached: its disk was, by its spec, or both of its disks were, whose sizes serve, and it has what they have; and it is as many disks.
+-- Both disks of a volume were attached, their sizes fit, and the volume has their blocks and its
+-- size.
 pub record AreJoined (holds : Spec → Option (List (List ℕ))) (first second : Spec) (mirror : Bool) (disk : DiskSeen) : Type 0 where
   pub a : DiskSeen
   pub b : DiskSeen
@@ -122,18 +126,30 @@ pub record AreJoined (holds : Spec → Option (List (List ℕ))) (first second :
   pub size : disk.size ≡ joined_size mirror a.size
   pub content : disk.content ≡ joined_content mirror a.content b.content
 
+-- A volume was attached: its one disk, or both its disks joined.
 abbrev pub HasVolumeBlocks : (Spec → Option (List (List ℕ))) → VolumeSpec → DiskSeen → Type 0
 HasVolumeBlocks holds (Plain s) disk = IsAttached s (holds s) disk
 HasVolumeBlocks holds (Joined first second mirror) disk = AreJoined holds first second mirror disk
 
+-- How many disks a volume has by its spec, and whether it mirrors them.
+abbrev pub spec_kind : VolumeSpec → ℕ × Bool
+spec_kind v = (spec_count v, is_mirror v)
+
+-- How many disks a disk is, and whether it has each block on two of them.
+abbrev pub disk_kind : DiskSeen → ℕ × Bool
+disk_kind d = (d.kind.members, d.kind.mirror)
+
+-- A volume was attached, and it is as many disks as its spec has, mirrored exactly where it says so.
 abbrev pub IsVolumeAttached : (Spec → Option (List (List ℕ))) → VolumeSpec → DiskSeen → Type 0
-IsVolumeAttached holds v disk = HasVolumeBlocks holds v disk × (disk.kind.members ≡ spec_count v)
+IsVolumeAttached holds v disk = HasVolumeBlocks holds v disk × (disk_kind disk ≡ spec_kind v)
 
 -- A file as it is opened: its record, and the bytes up to its length.
 pub record OpenedFile : Type 0 where
   pub info : FileInfo
   pub bytes : List ℕ
 
+-- A file of a volume as it is opened: its record on the disk of that number, and the bytes that the
+-- disk has of it.
 abbrev pub mounted_file : ℕ × List (List ℕ) → FileInfo → OpenedFile
 mounted_file disk info = record { info = info_on disk.0 info; bytes = stored_bytes disk.1 info }
 
@@ -150,32 +166,39 @@ table_of_read block size = if is_from_to 2 16384 size then table_read (reading b
 abbrev pub table_on : List (List ℕ) → Result TableSeen ℕ
 table_on blocks = table_of_read (slice_index_or blocks 0 []) (length blocks)
 
--- Why two disks as they are held can't be joined: the size of one, which is rule 0 of volumes, or that the two differ.
+-- The number of a spec's disk, and how many blocks it has as it is held.
 abbrev pub held_size : (Spec → Option (List (List ℕ))) → Spec → ℕ × ℕ
 held_size holds s = (spec_number s, length (blocks_held holds s))
 
+-- The rule that two disks' sizes break: rule 0 of volumes for the size of one, set-up rule 15 if
+-- they differ.
 abbrev pub size_refusal : VolumeStop → Option Refusal
 size_refusal (unfit.Size disk) = Some (refusal.Volume disk 0)
 size_refusal unfit.Unequal = Some (refusal.Rule 15)
 size_refusal why = None
 
+-- The rule that the sizes of a volume's two disks break, if it has two and their sizes don't serve.
 abbrev pub sizes_refused : (Spec → Option (List (List ℕ))) → VolumeSpec → Option Refusal
 sizes_refused holds (Plain s) = None
 sizes_refused holds (Joined first second mirror) = option_and_then size_refusal (size_fault (held_size holds first) (held_size holds second))
 
--- The table of a volume, or the rule that the sizes of its disks break, or its own size or block 0.
+-- The table of the volume of a number, or the refusal by the rule that its size or block 0 breaks.
 abbrev pub told_table : ℕ → Result TableSeen ℕ → Result TableSeen Refusal
 told_table number (Err rule) = Err (refusal.Volume number rule)
 told_table number (Ok table) = Ok table
 
+-- A table or its refusal, unless a rule was broken before it.
 abbrev pub unless_refused : Option Refusal → Result TableSeen Refusal → Result TableSeen Refusal
 unless_refused (Some r) table = Err r
 unless_refused None table = table
 
+-- The table of a volume as it is held, or the rule that its disks' sizes, its own size or its block
+-- 0 breaks.
 abbrev pub volume_table : (Spec → Option (List (List ℕ))) → VolumeSpec → Result TableSeen Refusal
 volume_table holds v = unless_refused (sizes_refused holds v) (told_table (volume_number v) (table_on (volume_blocks holds v)))
 
--- The files of the volume, and behind them those of the volumes behind it.
+-- The files of a volume, and behind them those of the volumes behind it; or the first rule that is
+-- broken.
 abbrev pub with_mounted : ℕ × List (List ℕ) → Result TableSeen Refusal → Result (List OpenedFile) Refusal → Result (List OpenedFile) Refusal
 with_mounted disk (Err r) more = Err r
 with_mounted disk (Ok table) (Err r) = Err r
@@ -206,16 +229,19 @@ new_file name writable disk pages bytes start = record {
   bytes = bytes;
 }
 
+-- The records of opened files.
 abbrev pub infos_of : List OpenedFile → List FileInfo
 infos_of files = map (λ f. f.info) files
 
+-- The names of opened files.
 abbrev pub names_of : List OpenedFile → List (List ℕ)
 names_of files = map (λ f. f.info.name) files
 
--- The bytes of the file of a number.
+-- The bytes of opened file k; none if there are fewer files.
 abbrev pub opened_bytes_at : List OpenedFile → ℕ → List ℕ
 opened_bytes_at files k = slice_index_or (map (λ f. f.bytes) files) k []
 
+-- The files with one more that begins at a block, or set-up rule 12 if no block serves.
 abbrev pub with_placed : List OpenedFile → (ℕ → OpenedFile) → Option ℕ → Result (List OpenedFile) Refusal
 with_placed files file None = Err (refusal.Rule 12)
 with_placed files file (Some start) = Ok (files ++ file start ∷ [])
@@ -229,12 +255,14 @@ with_line_file sizes files (given.File name writable disk pages bytes) =
     else with_placed files (new_file name writable disk pages bytes) (place_for (sizes disk) (extents_of_disk disk (infos_of files)) pages)
 with_line_file sizes files a = Ok files
 
+-- The files with those of all set-up lines, one line after another; or the first rule that one
+-- breaks.
 abbrev pub with_line_files : (ℕ → ℕ) → Result (List OpenedFile) Refusal → List SetupLine → Result (List OpenedFile) Refusal
 with_line_files sizes (Err r) setup = Err r
 with_line_files sizes (Ok files) [] = Ok files
 with_line_files sizes (Ok files) (l ∷ setup) = with_line_files sizes (with_line_file sizes files l.act) setup
 
--- At most 64 files.
+-- The files if there are at most 64, otherwise set-up rule 10; a rule broken before stands.
 abbrev pub if_few : Result (List OpenedFile) Refusal → Result (List OpenedFile) Refusal
 if_few (Err r) = Err r
 if_few (Ok files) = if nat_lt 64 (length files) then Err (refusal.Rule 10) else Ok files
@@ -258,16 +286,17 @@ mounted_infos (n ∷ numbers) (t ∷ tables) = map (info_on n) t.entries ++ moun
 abbrev pub size_among : List (ℕ × ℕ) → ℕ → ℕ
 size_among sizes number = unwrap_or (lookup (λ n. n == number) sizes) 0
 
--- What the rack tells of the blocks of a volume: those that it holds for a disk by path, or those of two such disks as one.
+-- The blocks that the rack tells it holds for a disk by path; none for a blank disk.
 abbrev pub content_held : (Spec → Option (List (List ℕ))) → Spec → Option (List (List ℕ))
 content_held holds (spec.Blank number blocks) = None
 content_held holds (spec.Path number path) = holds (spec.Path number path)
 
+-- The blocks that the rack tells it holds for a volume: those of its disk, or those of both as one.
 abbrev pub volume_content : (Spec → Option (List (List ℕ))) → VolumeSpec → Option (List (List ℕ))
 volume_content holds (Plain s) = content_held holds s
 volume_content holds (Joined first second mirror) = joined_content mirror (content_held holds first) (content_held holds second)
 
--- Where the rack tells them, block 0 says this table.
+-- Where the rack tells the blocks of a volume, block 0 says this table.
 abbrev pub RackSays : (Spec → Option (List (List ℕ))) → VolumeSpec → TableSeen → Type 0
 RackSays holds v table = IfSome (volume_content holds v) (λ blocks. table_on blocks ≡ Ok table)
 
@@ -280,7 +309,7 @@ pub record IsTableRead (holds : Spec → Option (List (List ℕ))) (s : VolumeSp
   pub volume : IsVolumeTable table
   pub told : RackSays holds s table
 
--- So is each of these tables, of the disk at its place.
+-- Each of these tables was read of the volume of its spec, on the disk of that number and size.
 abbrev pub AreTablesRead : (Spec → Option (List (List ℕ))) → List VolumeSpec → List (ℕ × ℕ) → List TableSeen → Type 0
 AreTablesRead holds [] [] [] = Unit {0}
 AreTablesRead holds (s ∷ specs) (d ∷ disks) (t ∷ tables) = IsTableRead holds s d t × AreTablesRead holds specs disks tables

@@ -42,22 +42,26 @@ with_infos s infos = record s { files = s.files ++ map fresh_vnode infos }
 abbrev pub HaveSetDisks : FilesSeen → Type 0
 HaveSetDisks s = All (λ v. IsSome (finite.get s.disks v.info.disk)) s.files
 
--- The numbers of disks, and their sizes by number.
+-- The numbers of disks.
 abbrev pub attached_numbers : {D : Type 0} → List (NumberedDisk D) → List ℕ
 attached_numbers disks = map (λ d. d.number) disks
 
+-- The number and the size of each disk, as it is seen.
 abbrev pub sizes_by_number : {D : Type 0} → (D → DiskSeen) → List (NumberedDisk D) → List (ℕ × ℕ)
 sizes_by_number seen disks = map (λ (d : NumberedDisk _). (d.number, (seen d.disk).size)) disks
 
+-- Table i of a list, or the empty one of a disk without blocks if there are fewer.
 abbrev pub table_at : List TableSeen → ℕ → TableSeen
 table_at tables i = slice_index_or tables i (empty_table 0)
 
--- What a file has to be to be added.
+-- A record that may be added: its extents and pages are numbers of 32 bits, and its length fits its
+-- pages.
 pub record IsAddable (info : FileInfo) : Type 0 where
   pub blocks : All (λ e. extent_end e ≤ 2 ^ 32) info.extents
   pub pages : page_count info.extents < 2 ^ 32
   pub within : info.length ≤ page_count info.extents * 4096
 
+-- Each entry of each table may be added.
 abbrev pub HaveAddable : List TableSeen → Type 0
 HaveAddable tables = (i : ℕ) → i < length tables → All IsAddable (table_at tables i).entries
 
@@ -71,16 +75,19 @@ IsTooMany total stop.Memory = Unit {0}
 IsTooMany total (stop.Rule n) = (n ≡ 10) × (64 < total)
 IsTooMany total (stop.Fault f) = ⊥
 
--- What a step that adds files did where this is what it was to give: the files, or the rule that is broken; it may lack memory.
+-- Why a step that adds files stopped, where these files were due: for want of memory, or by the
+-- rule that is broken.
 abbrev pub Stopped : Result (List OpenedFile) Refusal → PlaceStop → Type 0
 Stopped read stop.Memory = Unit {0}
 Stopped read (stop.Rule n) = read ≡ Err (refusal.Rule n)
 Stopped read (stop.Fault f) = ⊥
 
+-- A step gave the files that were due, if any were.
 abbrev pub Gave : FilesSeen → Result (List OpenedFile) Refusal → Type 0
 Gave new (Ok files) = HasOpened new files
 Gave new (Err r) = ⊥
 
+-- A step that adds files gave those that were due, or stopped with a cause.
 abbrev pub Placing : FilesSeen → Result (List OpenedFile) Refusal → Result (Unit {0}) PlaceStop → Type 0
 Placing new read (Ok done) = Gave new read
 Placing new read (Err e) = Stopped read e
@@ -128,6 +135,7 @@ abbrev pub with_file : ℕ → Option (List (List ℕ)) → FileInfo → List �
 with_file number content info bytes =
     if info.disk == number then with_block_pages content (front_block info.extents) (filled_pages bytes) else content
 
+-- The content of the disk of a number with the pages of all these files, one file after another.
 abbrev pub with_file_pages : ℕ → Option (List (List ℕ)) → List OpenedFile → Option (List (List ℕ))
 with_file_pages number content [] = content
 with_file_pages number content (f ∷ files) = with_file_pages number (with_file number content f.info f.bytes) files
@@ -140,34 +148,40 @@ pub record RemainsThere {D : Type 0} (seen : D → DiskSeen) (old new : Numbered
   pub later : (seen old.disk).faults ≤ (seen new.disk).faults
   pub untold : (seen old.disk).content ≡ None → (seen new.disk).content ≡ None
 
+-- Disks stand in their order, and each keeps its number, size and kind; its count of faults didn't
+-- fall, and it tells only if it told.
 pub record RemainThere {D : Type 0} (seen : D → DiskSeen) (old new : List (NumberedDisk D)) : Type 0 where
   pub count : length new ≡ length old
   pub each : (i : ℕ) (d : NumberedDisk D) → i < length old → RemainsThere seen (slice_index_or old i d) (slice_index_or new i d)
 
--- A fault of the last transfer of the disk, or of one of the disks.
+-- A fault is that of the last transfer of the disk.
 abbrev pub IsFaultOne : {D : Type 0} → (D → DiskSeen) → NumberedDisk D → OpenFaultSeen → Type 0
 IsFaultOne seen disk fault = HasLastFault 0 (numbered_seen seen disk) (open_fault_counts fault)
 
+-- A fault is that of the last transfer of one of the disks.
 pub record IsFaultThere {D : Type 0} (seen : D → DiskSeen) (disks : List (NumberedDisk D)) (fault : OpenFaultSeen) : Type 0 where
   pub i : ℕ
   pub inside : i < length disks
   pub one : (d : NumberedDisk D) → IsFaultOne seen (slice_index_or disks i d) fault
 
--- What each disk has after a file's pages, or several files', were written.
+-- Each disk has what it had, with the pages of one file of that record and those bytes where it
+-- lies.
 abbrev pub WroteOne : {D : Type 0} → (D → DiskSeen) → FileInfo → List ℕ → List (NumberedDisk D) → List (NumberedDisk D) → Type 0
 WroteOne seen info bytes old new =
     (i : ℕ) (d : NumberedDisk _) → i < length old
     → (seen (slice_index_or new i d).disk).content ≡ with_file (slice_index_or old i d).number (seen (slice_index_or old i d).disk).content info bytes
 
+-- Each disk has what it had, with the pages of these files where they lie.
 abbrev pub WroteEach : {D : Type 0} → (D → DiskSeen) → List OpenedFile → List (NumberedDisk D) → List (NumberedDisk D) → Type 0
 WroteEach seen files old new =
     (i : ℕ) (d : NumberedDisk _) → i < length old
     → (seen (slice_index_or new i d).disk).content ≡ with_file_pages (slice_index_or old i d).number (seen (slice_index_or old i d).disk).content files
 
--- A disk, or each of several, has what it had in the blocks that are spared, by the disk's number.
+-- A disk has what it had in each block that is spared for a disk of its number.
 abbrev pub KeepsThere : {D : Type 0} → (D → DiskSeen) → (ℕ → ℕ → Type 0) → NumberedDisk D → NumberedDisk D → Type 0
 KeepsThere seen spared old new = (block : ℕ) → spared old.number block → block_told (seen new.disk).content block ≡ block_told (seen old.disk).content block
 
+-- Each of these disks has what it had in each block that is spared for a disk of its number.
 abbrev pub KeepThere : {D : Type 0} → (D → DiskSeen) → (ℕ → ℕ → Type 0) → List (NumberedDisk D) → List (NumberedDisk D) → Type 0
 KeepThere seen spared old new =
     (i : ℕ) (d : NumberedDisk _) → i < length old → KeepsThere seen spared (slice_index_or old i d) (slice_index_or new i d)
@@ -178,20 +192,27 @@ HasPlaceOn seen info bytes disk =
     info.disk ≡ disk.number
     → (front_block info.extents + pages_in (length bytes) ≤ (seen disk.disk).size) × (front_block info.extents + pages_in (length bytes) < 2 ^ 32)
 
+-- The pages that a file's bytes fill fit the disks of the file's number.
 abbrev pub HasPlaces : {D : Type 0} → (D → DiskSeen) → List (NumberedDisk D) → FileInfo → List ℕ → Type 0
 HasPlaces seen disks info bytes = All (HasPlaceOn seen info bytes) disks
 
+-- The pages that the bytes of each of these files fill fit the disks of its number.
 abbrev pub HavePlaces : {D : Type 0} → (D → DiskSeen) → List (NumberedDisk D) → List OpenedFile → Type 0
 HavePlaces seen disks files = All (λ f. HasPlaces seen disks f.info f.bytes) files
 
--- The files that disks have as they are attached, by their tables, with their bytes; zeros where a disk doesn't tell.
+-- The bytes that a content has of a file, or zeros, as many as its length, where the content isn't
+-- told.
 abbrev pub content_bytes : Option (List (List ℕ)) → FileInfo → List ℕ
 content_bytes None info = replicate info.length 0
 content_bytes (Some blocks) info = stored_bytes blocks info
 
+-- A file of a disk as it is attached: its record on the disk of that number, with its bytes, or
+-- zeros where the disk doesn't tell.
 abbrev pub found_file : ℕ × DiskSeen → FileInfo → OpenedFile
 found_file disk info = record { info = info_on disk.0 info; bytes = content_bytes disk.1.content info }
 
+-- The files that disks have as they are attached, in turn by the tables, zeros for the bytes of
+-- those whose disks don't tell.
 abbrev pub found_files : List (ℕ × DiskSeen) → List TableSeen → List OpenedFile
 found_files [] tables = []
 found_files (d ∷ disks) [] = []
@@ -202,6 +223,7 @@ abbrev pub Distinct : List ℕ → Type 0
 Distinct [] = Unit {0}
 Distinct (n ∷ numbers) = AllByRecursion (λ m. n ≢ m) numbers × Distinct numbers
 
+-- The names of the files.
 abbrev pub names_made : FilesSeen → List (List ℕ)
 names_made made = map (λ v. v.info.name) made.files
 

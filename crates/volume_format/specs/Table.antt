@@ -10,6 +10,7 @@ pub record TableSeen : Type 0 where
   pub blocks : ℕ
   pub entries : List FileInfo
 
+-- The table of a disk of so many blocks without a file.
 abbrev pub empty_table : ℕ → TableSeen
 empty_table blocks = record { blocks = blocks; entries = [] }
 
@@ -22,14 +23,16 @@ pub record HasRoom (entries : List FileInfo) : Type 0 where
   pub files : length entries ≤ 64
   pub extents : length (all_extents entries) ≤ 252
 
--- The first block of a file.
+-- The first block of a file with these extents, or 0 for a file without extents.
 abbrev pub front_block : List Extent → ℕ
 front_block [] = 0
 front_block (e ∷ es) = e.start
 
+-- A file without name, extents and bytes, which stands for a file that isn't there.
 abbrev pub no_entry : FileInfo
 no_entry = record { name = []; disk = 0; extents = []; length = 0; writable = false }
 
+-- File i of a table, or the file without a name if there are fewer.
 abbrev pub entry_at : List FileInfo → ℕ → FileInfo
 entry_at entries i = slice_index_or entries i no_entry
 
@@ -55,7 +58,7 @@ pub record IsFreePlace (blocks : ℕ) (extents : List Extent) (pages start : ℕ
   pub within : start + pages ≤ blocks
   pub free : (b : ℕ) → start ≤ b → b < start + pages → list_any (has_block b) extents ≡ false
 
--- The least such place, or none where there is none.
+-- The least free place of so many blocks among extents on a disk, or none if no place is free.
 abbrev pub IsLeastPlace : ℕ → List Extent → ℕ → Option ℕ → Type 0
 IsLeastPlace blocks extents pages None = (start : ℕ) → ¬ IsFreePlace blocks extents pages start
 IsLeastPlace blocks extents pages (Some start) =

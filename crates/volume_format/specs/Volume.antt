@@ -14,10 +14,12 @@ pub record IsVolumeName (name : List ℕ) : Type 0 where
   pub bytes : list_all is_table_name_byte name ≡ true
   pub other : name ≢ codes "zero"
 
+-- Extent j of a list, or one without blocks if there are fewer.
 abbrev pub extent_at : List Extent → ℕ → Extent
 extent_at extents j = slice_index_or extents j (record { start = 0; pages = 0 })
 
--- A file of a volume on a disk of so many blocks: each extent lies on the disk and none begins where the one before it ends.
+-- A file of a volume on a disk of so many blocks: name and length fit, each extent lies on the
+-- disk, none continues the one before.
 pub record IsVolumeFile (blocks : ℕ) (e : FileInfo) : Type 0 where
   pub name : IsVolumeName e.name
   pub disk : e.disk ≡ 0
@@ -38,9 +40,10 @@ pub record IsVolumeTable (t : TableSeen) : Type 0 where
   pub apart : (j k : ℕ) → k < j → j < length (all_extents t.entries)
       → do_meet (extent_at (all_extents t.entries) k) (extent_at (all_extents t.entries) j) ≡ false
 
--- What a file has to be so that a table keeps the rules with it: its name is new, and no two of its extents have a block in common.
+-- No file of the table has the name.
 abbrev pub IsNewName : List ℕ → List FileInfo → Type 0
 IsNewName name entries = (i : ℕ) → i < length entries → (entry_at entries i).name ≢ name
 
+-- No two extents of the list have a block in common.
 abbrev pub AreDisjointExtents : List Extent → Type 0
 AreDisjointExtents extents = (j k : ℕ) → k < j → j < length extents → do_meet (extent_at extents k) (extent_at extents j) ≡ false

@@ -14,6 +14,7 @@ padded_field size bytes = bytes ++ replicate (size - length bytes) 0
 unfoldable pub number_bytes : ℕ → List ℕ
 number_bytes n = to_be_bytes w32 n
 
+-- The eight bytes of an extent: its first block, and its number of blocks.
 unfoldable pub extent_bytes : Extent → List ℕ
 extent_bytes e = number_bytes e.start ++ number_bytes e.pages
 
@@ -21,21 +22,26 @@ extent_bytes e = number_bytes e.start ++ number_bytes e.pages
 abbrev pub extents_up_to : List FileInfo → ℕ → ℕ
 extents_up_to entries i = length (all_extents (take i entries))
 
--- The entry of file i: its name, its length, its first extent and how many it has, and its mode.
+-- The 32 bytes of a file's entry: name, length, place of its first extent in the table, number of
+-- extents, and mode.
 unfoldable pub file_entry_bytes : FileInfo → ℕ → List ℕ
 file_entry_bytes e first =
     padded_field 16 e.name ++ number_bytes e.length ++ number_bytes first ++ number_bytes (length e.extents)
     ++ number_bytes (if e.writable then 1 else 0)
 
+-- The 32 bytes of file i's entry.
 abbrev pub entry_bytes : List FileInfo → ℕ → List ℕ
 entry_bytes entries i = file_entry_bytes (entry_at entries i) (extents_up_to entries i)
 
+-- The bytes of all entries, one behind the other.
 abbrev pub entries_bytes : List FileInfo → List ℕ
 entries_bytes entries = flat_map (entry_bytes entries) (range_with_len 0 (length entries))
 
+-- The bytes of all files' extents, one behind the other.
 abbrev pub extents_bytes : List FileInfo → List ℕ
 extents_bytes entries = flat_map extent_bytes (all_extents entries)
 
+-- The 32 bytes of the header, in version 2.
 unfoldable pub header_bytes : TableSeen → List ℕ
 header_bytes t =
     codes "SUNVMVOL" ++ number_bytes 2 ++ number_bytes t.blocks ++ number_bytes (length t.entries)

@@ -12,21 +12,26 @@ pub data Protocol : Type 0 where
 abbrev pub left_at : List Duty → Phase → Errand → Bool → ByBell ℕ → WaitingSeat
 left_at duties phase errand in_hand seen = owing (ring leaves ++ duties) (seat_at phase errand in_hand seen)
 
--- What the end of a call of a file owes.
+-- What a seat owes that ends a call of a file: to ring `changes`, and with three bells to ring
+-- `files` for all.
 abbrev pub told_of_file : Protocol → List Duty
 told_of_file two_bells = ring changes
 told_of_file three_bells = ring changes ++ ring_all files
 
+-- What a seat owes that ends a call with this errand: to ring `changes`, and what a file's call
+-- owes.
 abbrev pub told_of_end : Protocol → Errand → List Duty
 told_of_end p file_turns = told_of_file p
 told_of_end p open_turns = told_of_file p
 told_of_end p _ = ring changes
 
--- How a seat leaves that meets another seat's call of its file.
+-- How a seat stands that leaves the lock since another seat has its file's call: what it owes the
+-- bells, and the bell on which it rests.
 abbrev pub left_for_file : Protocol → ByBell ℕ → WaitingSeat
 left_for_file two_bells seen = left_at [] (rests changes comparing) file_turns false seen
 left_for_file three_bells seen = left_at (wake_one changes) (rests files comparing) file_turns false seen
 
+-- A step of one seat, from how it stands to how it stands, that changes no bell and no other seat.
 pub data OwnStep (p : Protocol) (w : Waiting) : WaitingSeat → WaitingSeat → Type 0 where
   -- `call`, `hit`: a load or a store begins by a first try. `move_hand`: a hand of the clock begins to move.
   begins_hit : {v : ByBell ℕ} → OwnStep p w (seat_at idle quick false v) (seat_at tries quick false v)

@@ -4,17 +4,19 @@ use Rattle.wait_model.specs.Bells.{BellName, ByBell, with_bell, Duty, raise, loo
 use Rattle.wait_model.specs.Waiting.{announcing, comparing_again, sleeping, waking, idle, gone, waits, tries, rests, Errand, quick, WaitingSeat, Waiting, seat_at, owing, seat_numbered, IsSeat, with_seat, sleeps_on}
 use Rattle.wait_model.specs.OwnSteps.{Protocol, OwnStep}
 
--- The bell's count rises by one; or its word is set.
+-- The same seats and words, the bell's count one more.
 abbrev pub with_ring : BellName → Waiting → Waiting
 with_ring bell w = record w { rings = with_bell bell (w.rings bell + 1) w.rings }
 
+-- The same seats and counts, the bell's word set to this.
 abbrev pub with_word : BellName → Bool → Waiting → Waiting
 with_word bell word w = record w { asleep = with_bell bell word w.asleep }
 
--- Whoever sleeps on the bell is waking.
+-- The seat, waking if it sleeps on the bell.
 abbrev pub seat_woken : BellName → WaitingSeat → WaitingSeat
 seat_woken bell x = record x { phase = if sleeps_on bell x.phase then rests bell waking else x.phase }
 
+-- The same seats and bells, whoever sleeps on the bell waking.
 abbrev pub with_all_woken : BellName → Waiting → Waiting
 with_all_woken bell w = record w { seats = map (seat_woken bell) w.seats }
 

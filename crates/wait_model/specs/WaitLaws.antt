@@ -12,12 +12,15 @@ IsUp w i (waits n) = (seat_numbered w (i + 1 + n)).phase ≡ gone
 IsUp w i (rests bell sleeping) = ⊥
 IsUp w i phase = Unit {0}
 
+-- The seat of a number owes a bell something, or could go on.
 abbrev pub IsAwake : Waiting → ℕ → Type 0
 IsAwake w i = ((seat_numbered w i).duties ≢ []) ⊎ IsUp w i (seat_numbered w i).phase
 
+-- The seat of a number has a transfer at its disk.
 abbrev pub HasTransferOut : Waiting → ℕ → Type 0
 HasTransferOut w i = (seat_numbered w i).phase ≡ out
 
+-- The seat of a number has ended.
 abbrev pub HasEnded : Waiting → ℕ → Type 0
 HasEnded w i = (seat_numbered w i).phase ≡ gone
 

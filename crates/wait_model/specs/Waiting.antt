@@ -29,23 +29,28 @@ pub data Errand : Type 0 where
   file_turns : Errand
   open_turns : Errand
 
+-- Whether a seat's errand is by turns: all but a quick one.
 abbrev pub is_by_turns : Errand → Bool
 is_by_turns quick = false
 is_by_turns _ = true
 
+-- Whether a seat's errand is a call of a file.
 abbrev pub is_for_file : Errand → Bool
 is_for_file file_turns = true
 is_for_file open_turns = true
 is_for_file _ = false
 
+-- Whether a seat's errand is a call of a file that it has between two parts.
 abbrev pub is_open : Errand → Bool
 is_open open_turns = true
 is_open _ = false
 
+-- Whether a seat is inside the lock.
 abbrev pub is_inside : Phase → Bool
 is_inside inside = true
 is_inside _ = false
 
+-- Whether a seat sleeps on the bell.
 abbrev pub sleeps_on : BellName → Phase → Bool
 sleeps_on bell (rests other sleeping) = is_same_bell bell other
 sleeps_on bell _ = false
@@ -72,6 +77,7 @@ seat_at phase errand in_hand seen = record { duties = []; phase = phase; errand 
 abbrev pub owing : List Duty → WaitingSeat → WaitingSeat
 owing duties seat = record seat { duties = duties }
 
+-- A count of 0 for each bell.
 abbrev pub never_rang : ByBell ℕ
 never_rang = by_bell 0 0 0
 
@@ -79,9 +85,11 @@ never_rang = by_bell 0 0 0
 abbrev pub seat_numbered : Waiting → ℕ → WaitingSeat
 seat_numbered w i = get_or w.seats i (seat_at gone quick false never_rang)
 
+-- The seat of a number is this one, and there is one of that number.
 abbrev pub IsSeat : Waiting → ℕ → WaitingSeat → Type 0
 IsSeat w i seat = (i < length w.seats) × (seat_numbered w i ≡ seat)
 
+-- The same bells, with this seat in place of the one of a number.
 abbrev pub with_seat : ℕ → WaitingSeat → Waiting → Waiting
 with_seat i seat w = record w { seats = set w.seats i seat }
 

@@ -2,7 +2,7 @@ use Rattle.std.proofs.Common.{◌≡◌, ◌++◌, List, length, map, take, drop
 use Rattle.std.specs.Prelude.{All}
 use Rattle.kernel_lock.specs.Seats.{HasAll}
 use Rattle.vm_kernel.specs.Callers.{CallerSeen, IsCallerOf, caller_part}
-use Rattle.kernel_trials.proofs.Trials.{still-fits}
+use Rattle.test_threads.proofs.Trials.{still-fits}
 use Rattle.bench_kernel.proofs.Rows.{all-of, all-free, has-all}
 use Rattle.bench_kernel.proofs.run.Given.{Over}
 use Rattle.bench_kernel.proofs.run.Goals.{After-use_pages}

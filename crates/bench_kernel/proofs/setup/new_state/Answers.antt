@@ -5,7 +5,7 @@ use Rattle.vm_core.specs.page_store.Bays.{pairs_seen}
 use Rattle.block_device.specs.declared.mem_disk.MemDisk.{MemDisk}
 use Rattle.vnode_files.specs.Files.{FilesSeen, no_files}
 use Rattle.vm_core.specs.Setup.{FilesOnDisks}
-use Rattle.act_trials.proofs.TrialFiles.{none-on-disks}
+use Rattle.test_acts.proofs.TrialFiles.{none-on-disks}
 use Rattle.bench_kernel.proofs.setup.new_state.Goals as goal
 
 pub start-requires-clause-files : goal.start-requires-clause-files

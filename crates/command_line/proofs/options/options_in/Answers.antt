@@ -21,4 +21,6 @@ returns c =
     f (codes "make") c.get_one-3.result (λ u x g. g.0) c.get_one-3.ensures.none c.get_one-3.ensures.value in
     let check : c.unwrap_or-3.result ≡ flag_of_word (codes "check") (rows_of f) =
     c.unwrap_or-3.ensures ∙ flag_found _ f (codes "check") c.get_one-4.result c.get_one-4.ensures.none c.get_one-4.ensures.value in
-    same_options _ _ _ _ _ _ _ _ trace pageout make check
+    let quiet : c.unwrap_or-4.result ≡ flag_of_word (codes "quiet") (rows_of f) =
+    c.unwrap_or-4.ensures ∙ flag_found _ f (codes "quiet") c.get_one-5.result c.get_one-5.ensures.none c.get_one-5.ensures.value in
+    same_options _ _ _ _ _ _ _ _ _ _ trace pageout make check quiet

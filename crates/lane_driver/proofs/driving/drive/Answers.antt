@@ -1,5 +1,6 @@
+use Rattle.fault_entry.proofs.flat_model.Maps.{on_err_any}
 use Rattle.std.proofs.Common.{◌≡◌, List, length, take, Some, refl, subst, arith, rules}
-use Rattle.std.specs.Prelude.{Result, Ok, Err, OnErr, slice_get, slice_set}
+use Rattle.std.specs.Prelude.{slice_get, slice_set}
 use Rattle.std.proofs.Math.ListN.{get_or}
 use Rattle.std.proofs.lemmas.Option.{slice_get-get_or}
 use Rattle.lane_driver.specs.Drives.{Drives, DrivesFront}
@@ -64,18 +65,14 @@ stopped g c same =
     gone-same c.args.order.now i n c.args.state.now c.loop-number.state c.args.lanes.now c.loop-number.lanes c.loop-number.invariant (at g c) (get_or c.loop-number.lanes n c.index-lanes-number.result) (there g c)
     c.take_turn.new.state c.take_turn.new.self same.0 same.1
 
-on-err : {A E : Type 0} (r : Result A E) (P : Type 0) → P → OnErr r P
-on-err (Ok x) P p = tt
-on-err (Err e) P p = p
-
 pub returns-in_err-take_turn-clause-err : goal.returns-in_err-take_turn-clause-err
 returns-in_err-take_turn-clause-err g c =
     let i = c.loop-number.number-index in
     let n = get_or c.args.order.now i 0 in
     let d = (goal.at.returns-in_err-take_turn-clause-err g c).After-take_turn in
-    on-err c.from_residual.result (DrivesFront c.args.order.now c.args.state.now c.take_turn.new.state c.args.lanes.now (slice_set c.loop-number.lanes n c.take_turn.new.self))
+    on_err_any c.from_residual.result (DrivesFront c.args.order.now c.args.state.now c.take_turn.new.state c.args.lanes.now (slice_set c.loop-number.lanes n c.take_turn.new.self))
     (gone-front c.args.order.now i n c.args.state.now c.loop-number.state c.args.lanes.now c.loop-number.lanes c.loop-number.invariant (at g d) (get_or c.loop-number.lanes n c.index-lanes-number.result) (there g d)
-    c.take_turn.new.state (slice_set c.loop-number.lanes n c.take_turn.new.self) (stopped g d c.in_err-take_turn.ensures.err))
+    c.take_turn.new.state c.take_turn.new.self c.in_err-take_turn.ensures.err.0 c.in_err-take_turn.ensures.err.1 c.in_err-take_turn.ensures.takes)
 
 pub returns-in_err-take_turn-clause-fits : goal.returns-in_err-take_turn-clause-fits
 returns-in_err-take_turn-clause-fits g c = λ opening seats fits.

@@ -1,11 +1,12 @@
-use Rattle.std.proofs.Common.{◌≡◌, ℕ, ◌-◌, ◌++◌, ◌∷◌, [], List, Bool, length, map, take, None, sym, ap, ◌∙◌, subst, arith, take_at}
+use Rattle.std.proofs.Common.{◌≡◌, ℕ, ◌+◌, ◌-◌, ◌++◌, ◌∷◌, [], List, Bool, length, map, take, None, refl, inl, inr, sym, ap, ◌∙◌, subst, arith, take_at}
 use Rattle.std.specs.Prelude.{All, vec_len}
-use Rattle.kernel_lock.specs.Seats.{HasAll, IsClosed}
+use Rattle.kernel_lock.specs.Seats.{HasAll, IsClosed, newcomer}
 use Rattle.volume_files.specs.vm_script.declared.plan.PlanLine.{PlanLine}
 use Rattle.vm_kernel.specs.Since.{IsSinceOpening, history_of, seat_of_entry}
 use Rattle.vm_kernel.specs.Callers.{CallerSeen, IsCallerOf, caller_part}
 use Rattle.vm_kernel.specs.Rooms.{AreRooms, callers_from}
 use Rattle.vm_kernel.specs.declared.starting.Room.{Room}
+use Rattle.block_runs.specs.Callers.{TurnsClock}
 use Rattle.block_runs.specs.Rows.{AllEnd, AreNumbered, AreBlocksReady}
 use Rattle.plan_runs.proofs.CallerRooms.{are-rooms, length-rooms}
 use Rattle.plan_runs.proofs.KernelRows.{IsNewRow, all-callers, all-free, are-ready, has-all, new-row, played-blocks, same-tree, same-rooms, some-caller}
@@ -42,7 +43,10 @@ start-requires-clause-empty g c = c.requires.started.4.opening.history
 pub returns-in-Err : goal.returns-in-Err
 returns-in-Err g c =
     let st = c.requires.started in
-    rw c.in-Err.ensures.err (played-none c.args.plan.now st.0 st.1 st.2 st.3 c.args.state st.4)
+    record {
+      played = rw c.in-Err.ensures.err (played-none c.args.plan.now st.0 st.1 st.2 st.3 c.args.state st.4);
+      daemon = inl (c.in-Err.ensures.err, refl);
+    }
 
 -- there is a caller
 none-left : (g : Over) (c : In_default g) → ⊥
@@ -120,9 +124,9 @@ close-requires-clause-all g c =
     subst (λ (row : List CallerSeen). HasAll c.in-Ok.started.0.seats (map caller_part row)) (sym (back g c))
     (has-all c.in-Ok.started.0 c.run_all-is_whole.new.row c.run_all-is_whole.new.daemon (numbered g c) (omega (arith, count, first, at, stays)) (omega (arith, seats, long, count, first)))
 
-pub returns : goal.returns
-returns g c =
-    let at = (goal.at.returns g c).After-closing_law in
+pub returns-clause-played : goal.returns-clause-played
+returns-clause-played g c =
+    let at = (goal.at.returns-clause-played g c).After-closing_law in
     let st = c.requires.started in
     let k = c.in-Ok.started.0 in
     let kernel = c.in-Ok.ensures.kernel.1 in
@@ -136,9 +140,22 @@ returns g c =
     let free = subst (λ (all : List CallerSeen). All (λ (it : CallerSeen). it.seat.note ≡ None) all) (sym (back g at)) (all-free k 1 row daemon (numbered g at) c.run_all-is_whole.ensures.daemon.clock) in
     let kept = c.closed_law.ensures k c.args.plan.now c.close.result row (daemon ∷ []) (numbered g at) tree (ap (λ (rs : List ℕ). length rs) rooms ∙ same) closed in
     let count = (fresh g at).count ∙ same in
-    let first = ready g (goal.at.returns g c).In-Some in
+    let first = ready g (goal.at.returns-clause-played g c).In-Some in
     played-blocks c.args.plan.now st.0 st.1 st.2 st.3 c.args.state st.4 c.requires.playable k kernel c.close.result c.run_all-is_whole.result
     (c.close.ensures.still free)
     (λ whole. c.closing_law.ensures.whole k c.args.plan.now H c.pop.new.self.items row tree first count
     (subst (λ (b : Bool). AllEnd k b c.args.plan.now.lines c.pop.new.self.items row) whole (ends g at)) kept)
     (c.closing_law.ensures.front k c.args.plan.now H c.pop.new.self.items row c.run_all-is_whole.result tree first count (ends g at) kept)
+
+pub returns-clause-daemon : goal.returns-clause-daemon
+returns-clause-daemon g c =
+    let at = (goal.at.returns-clause-daemon g c).After-closing_law in
+    let count = length c.args.state.entries in
+    let same : 0 + count ≡ count = omega arith in
+    let turned = subst (λ (d : CallerSeen). TurnsClock c.in-Ok.started.0 d c.args.turns c.run_all-is_whole.new.daemon) (fresh g at).new c.run_all-is_whole.ensures.daemon in
+    inr (record {
+      kernel = c.in-Ok.started.0;
+      opening = c.in-Ok.ensures.kernel.1;
+      last = c.run_all-is_whole.new.daemon;
+      turned = subst (λ (n : ℕ). TurnsClock c.in-Ok.started.0 (record { seat = newcomer c.in-Ok.started.0 n; process = 0 }) c.args.turns c.run_all-is_whole.new.daemon) same turned;
+    })

@@ -1,4 +1,4 @@
-use Rattle.std.proofs.Common.{inl, inr, refl}
+use Rattle.std.proofs.Common.{inl, inr, refl, ◌∙◌}
 use Rattle.page_store.specs.Bays.{pairs_seen}
 use Rattle.volume_files.proofs.DiskLists.{have-written}
 use Rattle.volume_files.proofs.stored_files.WrittenTexts.{wrote_nothing}
@@ -24,3 +24,13 @@ returns-in-Err-Memory-clause-ends g c = inr (inr (record {
   tables = inl (rw c.in-Err-Memory.field-0-is at c.in-Err-Memory.ensures.stop);
   wrote = wrote_nothing (g.K.Sink.seen c.args.out.now);
 }))
+
+pub returns-in-Ok-clause-ends : goal.returns-in-Ok-clause-ends
+returns-in-Ok-clause-ends g c = inl (record {
+  mid = pairs_seen g.D.Disk.seen c.write_tables.new.disks;
+  writes = c.write_tables.ensures.keeps;
+  tables = c.in-Ok.ensures.tables;
+  reads = c.show_report.ensures.reads;
+  uncounted = λ quiet. c.show_report.ensures.uncounted quiet ∙ c.in-Ok.ensures.uncounted;
+  ends = c.show_report.ensures.ends;
+})

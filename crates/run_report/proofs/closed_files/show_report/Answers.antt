@@ -1,4 +1,4 @@
-use Rattle.std.proofs.Common.{◌≡◌, ◌∙◌, ℕ, sym, subst, true, false}
+use Rattle.std.proofs.Common.{◌≡◌, ◌∙◌, ℕ, refl, sym, subst, true, false}
 use Rattle.std.specs.Prelude.{is_some}
 use Rattle.page_store.specs.Bays.{pairs_seen}
 use Rattle.run_endings.specs.Ending.{IsQuiet}
@@ -58,3 +58,16 @@ returns-then-is_some-clause-hides g c = λ quiet. c.in_default.ensures.steady
 
 pub returns-in-Ok-clause-hides : goal.returns-in-Ok-clause-hides
 returns-in-Ok-clause-hides g c = λ quiet. c.in-Ok.ensures.steady ∙ c.in_default.ensures.steady
+
+pub returns-in-Err-show_files-clause-uncounted : goal.returns-in-Err-show_files-clause-uncounted
+returns-in-Err-show_files-clause-uncounted g c = λ quiet.
+    where-shown c.in-Err-show_files.stop (quiet-shown c.in-Err-show_files.stop (subst IsQuiet c.showing_stop.ensures quiet)) c.in-Err-show_files.ensures.failures
+
+pub returns-in-Err-clause-uncounted : goal.returns-in-Err-clause-uncounted
+returns-in-Err-clause-uncounted g c = λ quiet. refl
+
+pub returns-then-is_some-clause-uncounted : goal.returns-then-is_some-clause-uncounted
+returns-then-is_some-clause-uncounted g c = λ quiet. refl
+
+pub returns-in-Ok-clause-uncounted : goal.returns-in-Ok-clause-uncounted
+returns-in-Ok-clause-uncounted g c = λ quiet. c.in-Ok.ensures.failures

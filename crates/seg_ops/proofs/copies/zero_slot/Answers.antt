@@ -6,17 +6,24 @@ use Rattle.page_store.specs.Steps.{next_name}
 use Rattle.vm_world.specs.anon_map.Maps.{places_of, with_places}
 use Rattle.vm_world.specs.flat_model.Step.{tails_cleared}
 use Rattle.vm_world.specs.CallSteps.{ChangesMemory}
-use Rattle.vm_world.specs.World.{World, world_seen}
+use Rattle.vm_world.specs.World.{World, slot_in, world_seen}
 use Rattle.vm_world.specs.declared.world.World as rust
 use Rattle.vm_world.specs.WorldSteps.{tails_lost}
 use Rattle.seg_ops.specs.Slots.{MakesHome, with_own_page}
 use Rattle.seg_ops.proofs.SlotCopies.{changes-again, own-blank, own-held}
 use Rattle.vm_world.specs.anon_slots.Slots.{AnonSlotsSeen, count_at}
 use Rattle.seg_ops.proofs.SlotCounts.{left-free}
-use Rattle.seg_ops.proofs.SlotPlaces.{place-twice}
+use Rattle.seg_ops.proofs.SlotPlaces.{place-twice, slot-here}
 use Rattle.seg_ops.proofs.SlotSteps.{home-again}
 use Rattle.seg_ops.proofs.StillSteps.{memory_of}
 use Rattle.seg_ops.proofs.copies.zero_slot.Goals as goal
+
+pub make_zero-requires-clause-empty : goal.make_zero-requires-clause-empty
+make_zero-requires-clause-empty g c =
+    let maps = c.args.world.now.maps in
+    let m = c.args.map in
+    let i = c.args.place in
+    ap (λ ps. slot_in ps m i) c.leave_slot.ensures.maps ∙ slot-here maps m i None c.requires.within
 
 pub make_zero-requires-clause-fits : goal.make_zero-requires-clause-fits
 make_zero-requires-clause-fits g c =

@@ -40,7 +40,7 @@ loop-place-preserved g c =
     let at = there_or (λ disk. (disk.0, seen disk.1)) c.loop-place.disks place c.index-disks-place.result (omega (arith, c.loop-place-test.true, c.loop-place.auto.disks)) in
     subst (λ (ds : List (ℕ × DiskSeen)). TablesSoFar infos (place + 1) old ds) (sym (map-set (λ disk. (disk.0, seen disk.1)) c.loop-place.disks place e))
     (tables_step infos place old (paired_seen seen c.loop-place.disks) (d.0, seen d.1)
-    (e.0, seen e.1) at c.in_ok-write_table.ensures.number c.in_ok-write_table.ensures.keeps c.loop-place.invariant c.in_ok-write_table.ensures.says)
+    (e.0, seen e.1) at c.in_ok-write_table.ensures.number c.in_ok-write_table.ensures.keeps c.loop-place.invariant c.in_ok-write_table.ensures.says c.in_ok-write_table.ensures.steady)
 
 pub returns-in_err-write_table-clause-keeps : goal.returns-in_err-write_table-clause-keeps
 returns-in_err-write_table-clause-keeps g c =
@@ -75,3 +75,6 @@ returns-clause-tables g c =
     let past : length (paired_seen seen c.loop-place.disks) ≤ c.loop-place.place =
     omega (arith, c.loop-place-test.false, c.loop-place.auto.disks, length-map {B = ℕ × DiskSeen} c.loop-place.disks (λ disk. (disk.0, seen disk.1))) in
     tables_done (infos_made c.args.files.now) c.loop-place.place (paired_seen seen c.args.disks.now) (paired_seen seen c.loop-place.disks) c.loop-place.invariant past
+
+pub returns-clause-uncounted : goal.returns-clause-uncounted
+returns-clause-uncounted g c = c.loop-place.invariant.uncounted

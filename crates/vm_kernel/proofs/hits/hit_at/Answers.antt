@@ -63,8 +63,9 @@ hit-leaves g c =
         event = event-at c.in-Some.state t c.number.result b.number None b.note (note_of_held c.args.sent.now) c.number.ensures none
             (subst (λ o. IsEvent c.number.result c.in-Some.state None t (note_of_held o)) (sym c.requires.none) c.in-Some-try_hit.ensures.event);
       },
-      subst (λ (x : Call). TriesAccess c.in-Some.state t c.args.process x (note_of_held c.args.sent.now) c.in-Some-try_hit.answer) c.requires.same
-          (subst (λ o. TriesAccess c.in-Some.state t c.args.process c.args.own.now (note_of_held o) c.in-Some-try_hit.answer) (sym c.requires.none) c.in-Some-try_hit.ensures.tries),
+      subst (λ (k : ℕ). TriesAccess c.in-Some.state t k c.args.process c.args.call.now (note_of_held c.args.sent.now) c.in-Some-try_hit.answer) c.number.ensures
+          (subst (λ (x : Call). TriesAccess c.in-Some.state t c.number.result c.args.process x (note_of_held c.args.sent.now) c.in-Some-try_hit.answer) c.requires.same
+          (subst (λ o. TriesAccess c.in-Some.state t c.number.result c.args.process c.args.own.now (note_of_held o) c.in-Some-try_hit.answer) (sym c.requires.none) c.in-Some-try_hit.ensures.tries)),
     )
 
 hit-comes : (g : Over) (c : After-leave g) → Comes {E = Unit {0}} c.args.seat.now c.args.process c.args.call.now c.leave.new.seat (note_of_held c.args.sent.now) (Ok (tried_of c.in-Some-try_hit.answer))

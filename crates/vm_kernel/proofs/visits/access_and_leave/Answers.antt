@@ -1,6 +1,7 @@
 use Rattle.std.proofs.Common.{None, ◌∙◌, sym, subst}
 use Rattle.vm_core.specs.Fits.{FitsAt}
 use Rattle.vm_kernel.specs.Notes.{note_of_held}
+use Rattle.vm_kernel.specs.Steps.{TriesAccess}
 use Rattle.vm_kernel.proofs.Fits.{event-at}
 use Rattle.vm_kernel.proofs.Told.{told-none}
 use Rattle.vm_kernel.proofs.visits.access_and_leave.Goals as goal
@@ -24,5 +25,6 @@ returns-clause-leaves g c = (
     event = event-at c.args.state c.access_and_begin-answer.new.self c.number.result c.args.seat.now.number None c.args.seat.now.note (note_of_held c.access_and_begin-answer.new.sent) c.number.ensures
         c.requires.inside.2 c.access_and_begin-answer.ensures.event;
   },
-  c.access_and_begin-answer.ensures.tries,
+  subst (λ k. TriesAccess c.args.state c.access_and_begin-answer.new.self k c.args.process c.args.call.now (note_of_held c.access_and_begin-answer.new.sent) c.access_and_begin-answer.result) c.number.ensures
+      c.access_and_begin-answer.ensures.tries,
 )

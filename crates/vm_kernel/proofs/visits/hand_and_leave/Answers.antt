@@ -1,6 +1,7 @@
 use Rattle.std.proofs.Common.{◌<◌, None, length, ◌∙◌, sym, subst}
 use Rattle.vm_core.specs.Fits.{FitsAt}
 use Rattle.vm_kernel.specs.Notes.{note_of_held}
+use Rattle.vm_kernel.specs.Steps.{MovesHand}
 use Rattle.vm_kernel.proofs.Fits.{event-at}
 use Rattle.vm_kernel.proofs.Told.{told-none}
 use Rattle.vm_kernel.proofs.visits.hand_and_leave.Goals as goal
@@ -28,6 +29,5 @@ returns-clause-leaves g c = (
     event = event-at c.args.state c.move_hand.new.self c.number.result c.args.seat.now.number None c.args.seat.now.note (note_of_held c.move_hand.new.sent) c.number.ensures
         c.requires.inside.2 c.move_hand.ensures.event;
   },
-  c.move_hand.ensures.same,
-  c.move_hand.ensures.hand,
+  subst (λ k. MovesHand c.args.state c.move_hand.new.self k (note_of_held c.move_hand.new.sent)) c.number.ensures c.move_hand.ensures.hand,
 )

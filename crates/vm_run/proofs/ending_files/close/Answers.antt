@@ -22,6 +22,6 @@ pub returns-then-not-is_whole-clause-ends : goal.returns-then-not-is_whole-claus
 returns-then-not-is_whole-clause-ends g c =
     lacks-closed c.args.is_whole _ _ _ _ _ _ _ _ _ _ (search rules) (λ some. first_of (search (rules, some), grind (arith, common_steps, some)))
     (lacks-kept (infos_made c.args.finished.now.files) _ _ (pairs_seen g.D.Disk.seen c.as_mut_slice.result.now) (pairs_seen g.D.Disk.seen c.write_tables.new.disks) _ _ _ refl
-    (tables-to _ _ _ c.write_tables.ensures.keeps c.write_tables.result c.write_tables.ensures.tables c.write_tables.ensures.stop)
+    (tables-to _ _ _ c.write_tables.ensures.keeps c.write_tables.result c.write_tables.ensures.tables c.write_tables.ensures.uncounted c.write_tables.ensures.stop)
     (first_of (search rules, grind (arith, common_steps))) (first_of (search rules, grind (arith, common_steps)))
     (first_of (search rules, grind (arith, common_steps))) (first_of (search rules, grind (arith, common_steps))))

@@ -9,13 +9,13 @@ use Rattle.run_outcome.specs.Ended.{end_of}
 use Rattle.run_outcome.specs.Members.{with_text}
 use Rattle.run_outcome.specs.Run.{outside_of}
 use Rattle.run_input.specs.declared.reading.Request.{Request}
-use Rattle.run_outcome.proofs.EarlyEnds.{bare-back, stopped-asking, stopped-checking}
+use Rattle.run_outcome.proofs.EarlyEnds.{bare-back, stopped-asking, stopped-checking, stopped-informing}
 use Rattle.run_outcome.proofs.PrintedTraces.{prints-trace}
 use Rattle.run_outcome.proofs.RunsHanded.{hands-none, was-run}
-use Rattle.run_outcome.proofs.TextsTold.{checked-told, stops-told}
+use Rattle.run_outcome.proofs.TextsTold.{checked-told, inquired-told, stops-told}
 use Rattle.run_endings.specs.Ending.{IsQuiet}
 use Rattle.run_outcome.proofs.LastLines.{racked-anyway}
-use Rattle.run_input.proofs.Unread.{quiet-answer, unless-not-read}
+use Rattle.run_input.proofs.Unread.{loud-inquiry, quiet-answer, unless-not-read}
 use Rattle.vm_run.proofs.threadless.run_alone.Goals as goal
 
 pub run_whole-requires-clause-may : goal.run_whole-requires-clause-may
@@ -56,6 +56,32 @@ returns-in-Ok-Check-clause-ends g c =
     let end = end_of seen c.conclude.result in
     was-run (prints-trace c.one_answer_law.ensures) given o t.0 t.1 end end (c.conclude.ensures.ends told o stopped)
     (hands-none told end (ap (λ v. map seen v.items) c.conclude.ensures.disks ∙ ap (map seen) c.bare_stop.ensures.disks) (ap (option_map seen) (c.conclude.ensures.swap ∙ c.bare_stop.ensures.swap)))
+
+pub returns-in-Ok-Ask-clause-ends : goal.returns-in-Ok-Ask-clause-ends
+returns-in-Ok-Ask-clause-ends g c =
+    let given = given_of (map string_bytes c.args.words.now) (g.S.Source.seen c.args.script.now) (g.R.Rack.seen c.args.rack.now) in
+    let seen = g.R.D.Disk.seen in
+    let rack = g.R.Rack.seen c.args.rack.now in
+    let sink = g.K.Sink.seen c.args.out.now in
+    let after = g.K.Sink.seen c.tell_inquiry-ending.new.out in
+    let t = inquired-told given c.in-Ok-Ask.inquiry (rw c.in-Ok-Ask.field-0-is at (c.in-Ok-Ask.ensures.asks given.holds)) in
+    let told = with_text given t.0 in
+    let o = outside_of (g.S.Source.seen c.args.script.now) (g.S.Source.seen c.ask.new.script) rack rack sink (g.K.Sink.seen c.conclude-in-Ok-Ask.new.out) in
+    let stopped : HasStopped told (with_sink o after) seen c.bare_stop-in-Ok-Ask.result = record {
+      ends = λ st ft. stopped-informing st ft told _ c.in-Ok-Ask.inquiry sink after refl refl t.2
+          seen c.bare_stop-in-Ok-Ask.result c.tell_inquiry-ending.result c.bare_stop-in-Ok-Ask.ensures.ending c.bare_stop-in-Ok-Ask.ensures.entries
+          c.bare_stop-in-Ok-Ask.ensures.counts c.bare_stop-in-Ok-Ask.ensures.disks c.bare_stop-in-Ok-Ask.ensures.swap c.tell_inquiry-ending.ensures.told;
+      once = record {
+        source = λ other. c.in-Ok-Ask.ensures.steady;
+        rack = racked-anyway c.bare_stop-in-Ok-Ask.result.ending refl;
+        sink = λ quiet. absurd (loud-inquiry c.in-Ok-Ask.inquiry sink after c.tell_inquiry-ending.result c.tell_inquiry-ending.ensures.told (subst IsQuiet c.bare_stop-in-Ok-Ask.ensures.ending quiet));
+      };
+      back = bare-back seen c.bare_stop-in-Ok-Ask.result rack.attached c.bare_stop-in-Ok-Ask.ensures.disks c.bare_stop-in-Ok-Ask.ensures.swap;
+      later = c.tell_inquiry-ending.ensures.later;
+    } in
+    let end = end_of seen c.conclude-in-Ok-Ask.result in
+    was-run (prints-trace c.one_answer_law.ensures) given o t.0 t.1 end end (c.conclude-in-Ok-Ask.ensures.ends told o stopped)
+    (hands-none told end (ap (λ v. map seen v.items) c.conclude-in-Ok-Ask.ensures.disks ∙ ap (map seen) c.bare_stop-in-Ok-Ask.ensures.disks) (ap (option_map seen) (c.conclude-in-Ok-Ask.ensures.swap ∙ c.bare_stop-in-Ok-Ask.ensures.swap)))
 
 pub returns-in-Err-clause-ends : goal.returns-in-Err-clause-ends
 returns-in-Err-clause-ends g c =

@@ -32,7 +32,7 @@ finish_run-requires-clause-run g c =
       b.3,
       b.4,
       c.in-Ok.field-0.state,
-      record { begun = b.5; played = c.play_alone-state.ensures },
+      record { begun = b.5; played = c.play_alone-state.ensures.played },
       refl,
       asked.1,
       b.6,
@@ -42,4 +42,4 @@ pub returns-in-Ok : goal.returns-in-Ok
 returns-in-Ok g c = λ given before after is asked steady.
     let b = c.in-Ok.ensures.begun in
     c.finish_run.ensures given before after (g.R.Rack.seen c.args.rack.now) (g.R.Rack.seen c.begin_plan.new.rack) (g.K.Sink.seen c.args.out.now) (record { options = c.args.options; plan = c.args.plan }) b.1 b.2 b.3 b.4 c.in-Ok.field-0.state
-    (sym b.0) (record { begun = b.5; played = c.play_alone-state.ensures }) is asked steady
+    (sym b.0) (record { begun = b.5; played = c.play_alone-state.ensures.played }) is asked steady

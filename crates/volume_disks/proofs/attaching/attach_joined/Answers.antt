@@ -10,13 +10,13 @@ use Rattle.volume_disks.proofs.attaching.attach_joined.Goals.{After-size_fault}
 
 -- the two disks that were attached
 first : (g : Over) (c : After-size_fault g) → IsDiskFor (single_seen g.R.D.Disk.seen) (g.R.Rack.seen c.args.rack.now).holds c.args.first.now c.in-Ok.disk
-first g c = let a = c.in-Ok.ensures in record { number = a.attached.0; attached = a.attached.1; single = a.single; unfailed = a.unfailed }
+first g c = let a = c.in-Ok.ensures in record { number = a.attached.0; attached = a.attached.1; single = a.single; once = refl; unfailed = a.unfailed }
 
 second : (g : Over) (c : After-size_fault g) → IsDiskFor (single_seen g.R.D.Disk.seen) (g.R.Rack.seen c.args.rack.now).holds c.args.second.now c.in-Ok-attach_single.disk
 second g c =
     let b = c.in-Ok-attach_single.ensures in
     disk_behind (single_seen g.R.D.Disk.seen) (g.R.Rack.seen c.args.rack.now).holds (g.R.Rack.seen c.attach_single.new.rack).holds c.args.second.now c.in-Ok-attach_single.disk
-    (c.attach_single.ensures.others c.args.second.now c.requires) b.attached.0 b.attached.1 b.single b.unfailed
+    (c.attach_single.ensures.others c.args.second.now c.requires) b.attached.0 b.attached.1 b.single refl b.unfailed
 
 pub returns-in-None-clause-ok : goal.returns-in-None-clause-ok
 returns-in-None-clause-ok g c =

@@ -1,11 +1,12 @@
-use Rattle.std.proofs.Common.{◌≡◌, ℕ, List, Option, Some, None, sym, subst}
+use Rattle.fault_entry.proofs.flat_model.Maps.{on_err_any}
+use Rattle.std.proofs.Common.{◌≡◌, ℕ, List, Option, Some, None, sym, ◌∙◌, subst}
 use Rattle.std.specs.Prelude.{option_map, slice_get}
 use Rattle.fault_entry.specs.page_store.Flight.{FlightSeen}
 use Rattle.fault_entry.specs.vm_types.declared.call.Call.{Call}
 use Rattle.fault_entry.specs.vm_world.Events.{IsEvent}
 use Rattle.vm_core.specs.Fits.{FitsAt}
 use Rattle.lane_driver.specs.Lanes.{AreLaneCalls, LaneSeen, MayMakeCalls, lane_sent, sent_by, sent_for}
-use Rattle.lane_driver.specs.LaneTurns.{TakesLaneTurn, TurnsCall}
+use Rattle.lane_driver.specs.LaneTurns.{NextTakesMemory, TakesLaneTurn, TurnsCall}
 use Rattle.lane_driver.proofs.MayGo.{may-try}
 use Rattle.lane_driver.proofs.Turning.{call-turn, may-then, next-none, next-some, rest-turn}
 use Rattle.lane_driver.proofs.lane.Lane.take_turn.Given.{Over}
@@ -58,3 +59,9 @@ returns-clause-may g c =
     let turn = returns-clause-turn g c in
     may-then c.args.state.now c.turn.new.state c.args.self.now (record { seat = c.self.inside.seat; calls = c.self.inside.calls.items; done = c.count_one-self-inside.result; flight = c.in_ok-done.flight }) turn
     (subst (λ (x : LaneSeen). AreLaneCalls x.calls) c.self.view_is c.self.invariant.1.made) c.requires.may
+
+pub returns-in_err-done-clause-takes : goal.returns-in_err-done-clause-takes
+returns-in_err-done-clause-takes g c =
+    let is = at g (goal.at.returns-in_err-done-clause-takes g c).After-take in
+    on_err_any c.from_residual.result (NextTakesMemory c.args.self.now)
+    (subst NextTakesMemory c.self.view_is (record { idle = sym c.take.ensures.value ∙ c.in_err-done.ensures.err.1; call = c.in-Some.call.now; next = is; takes = c.in_err-done.ensures.takes }))

@@ -12,5 +12,5 @@ access_and_begin-requires-clause-fits g c =
 
 pub returns-clause-tries : goal.returns-clause-tries
 returns-clause-tries g c =
-    subst (λ (s : KernelState). TriesAccess s c.access_and_begin.new.state c.args.process c.args.call.now (note_of_held c.access_and_begin.new.sent) c.access_and_begin.result)
+    subst (λ (s : KernelState). TriesAccess s c.access_and_begin.new.state c.args.seat c.args.process c.args.call.now (note_of_held c.access_and_begin.new.sent) c.access_and_begin.result)
     (c.deref_mut.ensures.value ∙ c.self.view_is) c.access_and_begin.ensures.tries

@@ -17,4 +17,4 @@ move_hand-requires g c =
 pub returns-clause-hand : goal.returns-clause-hand
 returns-clause-hand g c =
     let same : c.deref_mut.result.now ≡ c.args.self.now = c.deref_mut.ensures.value ∙ c.self.view_is in
-    subst (λ (s : KernelState). MovesHand s c.move_hand.new.state (note_of_held c.move_hand.new.sent)) same c.move_hand.ensures.hand
+    subst (λ (s : KernelState). MovesHand s c.move_hand.new.state c.args.seat (note_of_held c.move_hand.new.sent)) same c.move_hand.ensures.hand

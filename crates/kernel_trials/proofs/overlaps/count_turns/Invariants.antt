@@ -1,5 +1,0 @@
-use Rattle.kernel_trials.specs.Workers.{IsWorkerAt}
-use Rattle.kernel_trials.proofs.overlaps.count_turns.Given as goal
-
-abbrev pub invariant-loop-turns : goal.invariant-loop-turns
-invariant-loop-turns g l = IsWorkerAt l.kernel l.initial.worker.caller.seat.number l.worker

@@ -1,6 +1,0 @@
-use Rattle.seg_ops.specs.vm_world.World.{world_seen}
-use Rattle.step_trials.specs.PageTrials.{IsTrial}
-use Rattle.step_trials.proofs.file_tests.make_all.Given as goal
-
-abbrev pub invariant-loop-place : goal.invariant-loop-place
-invariant-loop-place l = IsTrial (world_seen l.world)

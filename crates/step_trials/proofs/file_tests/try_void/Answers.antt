@@ -1,8 +1,0 @@
-use Rattle.seg_ops.specs.vm_world.World.{world_seen}
-use Rattle.seg_map.specs.Voids.{with_page_void}
-use Rattle.step_trials.specs.PageTrials.{trial_spaces}
-use Rattle.step_trials.proofs.PageTrialLemmas.{trial-changes}
-use Rattle.step_trials.proofs.file_tests.try_void.Goals as goal
-
-pub returns : goal.returns
-returns c = record { fits = trial-changes (world_seen c.args.world.now) (world_seen c.void_page.new.world) 0 (with_page_void c.args.page) c.requires.fits (c.void_page.ensures.voids trial_spaces c.requires.fits.memory) }

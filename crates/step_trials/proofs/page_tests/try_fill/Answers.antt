@@ -1,9 +1,0 @@
-use Rattle.seg_ops.specs.page_hash.Names.{is_name}
-use Rattle.seg_ops.specs.page_store.Steps.{next_name}
-use Rattle.seg_ops.specs.vm_world.World.{world_seen}
-use Rattle.step_trials.specs.PageTrials.{trial_spaces}
-use Rattle.step_trials.proofs.PageTrialLemmas.{trial-step}
-use Rattle.step_trials.proofs.page_tests.try_fill.Goals as goal
-
-pub returns-in-Absent : goal.returns-in-Absent
-returns-in-Absent c = record { fits = trial-step (world_seen c.args.world.now) (world_seen c.fill.new.world) (is_name (next_name c.args.world.now.store)) c.requires.fits (c.fill.ensures.pages trial_spaces c.requires.fits.memory) }

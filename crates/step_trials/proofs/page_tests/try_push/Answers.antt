@@ -1,8 +1,0 @@
-use Rattle.std.proofs.Common.{false}
-use Rattle.seg_ops.specs.vm_world.World.{world_seen}
-use Rattle.step_trials.specs.PageTrials.{trial_spaces}
-use Rattle.step_trials.proofs.PageTrialLemmas.{trial-step}
-use Rattle.step_trials.proofs.page_tests.try_push.Goals as goal
-
-pub push_gathered-requires-clause-fits : goal.push_gathered-requires-clause-fits
-push_gathered-requires-clause-fits c = trial-step (world_seen c.args.world.now) (world_seen c.sync.new.world) (λ name. false) c.requires.fits (c.sync.ensures.makes.keeps trial_spaces c.requires.fits.memory)

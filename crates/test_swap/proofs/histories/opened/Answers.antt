@@ -1,0 +1,8 @@
+use Rattle.std.proofs.Common.{◌≡◌, ◌∙◌, ap, false}
+use Rattle.std.specs.Ordering.{nat_cmp}
+use Rattle.std.specs.FinSet as set
+use Rattle.flat_model.specs.Flat.{Flat}
+use Rattle.test_swap.proofs.histories.opened.Goals as goal
+
+pub root-requires : goal.root-requires
+root-requires c = record { unborn = ap (λ (F : Flat). set.contains F.born 1) c.new-flat.ensures ∙ set.contains-empty nat_cmp 1 }

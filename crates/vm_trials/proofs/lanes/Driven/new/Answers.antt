@@ -1,4 +1,0 @@
-use Rattle.vm_trials.proofs.lanes.Driven.new.Goals as goal
-
-pub invariant_of-result : goal.invariant_of-result
-invariant_of-result c = c.in_ok-lanes.ensures
